@@ -1,0 +1,38 @@
+-- What the code's messages say.
+use Prim.Native.Nat.{ℕ, _+_, _*_, _/_}
+use mathlib.Core.List.{List, [], _∷_, map}
+use lib.ListN.{length}
+use denote.Ref.{now}
+use Rattle.octets.specs.Octets.{value}
+use Rattle.frame.specs.declared.message.Lsp.{Lsp as LspValue}
+use Rattle.frame.specs.declared.message.Entry.{Entry}
+use Rattle.frame.specs.declared.message.Entries.{Entries}
+use Rattle.frame.specs.declared.message.Csnp.{Csnp as CsnpValue}
+use Rattle.frame.specs.declared.message.Psnp.{Psnp as PsnpValue}
+use Rattle.frame.specs.declared.message.Message.{Message}
+use Rattle.frame.specs.declared.message.Message.the-variants.{Lsp, Csnp, Psnp}
+use Rattle.frame.specs.Messages.{LspPdu, SnpEntry, CsnpPdu, PsnpPdu, Pdu, lsp, csnp, psnp}
+use Rattle.frame.specs.Reading.{entries-at}
+
+abbrev pub lsp-said : LspValue → LspPdu
+lsp-said m =
+    record { lifetime = m .lifetime; id = value (m .id); number = m .number; check = m .check; flags = m .flags; body = now (m .body) }
+
+abbrev pub entry-said : Entry → SnpEntry
+entry-said e = record { lifetime = e .lifetime; id = value (e .id); number = e .number; check = e .check }
+
+-- the entries in octets, 16 to each
+abbrev pub entries-in : List ℕ → List SnpEntry
+entries-in octets = entries-at (length octets / 16) 0 octets
+
+abbrev pub csnp-said : CsnpValue → CsnpPdu
+csnp-said m =
+    record { source = value (m .source); start = value (m .start); end = value (m .end); entries = entries-in (now (m .entries .octets)) }
+
+abbrev pub psnp-said : PsnpValue → PsnpPdu
+psnp-said m = record { source = value (m .source); entries = entries-in (now (m .entries .octets)) }
+
+abbrev pub message-said : Message → Pdu
+message-said (Lsp m) = lsp (lsp-said m)
+message-said (Csnp m) = csnp (csnp-said m)
+message-said (Psnp m) = psnp (psnp-said m)

@@ -1,0 +1,11 @@
+// Frames: LSP, CSNP and PSNP read from octets and written to them.
+mod kind;
+mod message;
+
+pub use kind::Kind;
+pub use message::Csnp;
+pub use message::Entries;
+pub use message::Entry;
+pub use message::Lsp;
+pub use message::Message;
+pub use message::Psnp;
