@@ -6,6 +6,7 @@ use lib.ListN.{length, length-append}
 use native.Mathlib.Omega.{arith}
 use native.Mathlib.Nat.{mul-le-mul-right}
 use Rattle.std.specs.shelf.Lists.{All}
+use Rattle.std.proofs.shelf.Elements.{all-push}
 use Rattle.octets.specs.Octets.{Octets, onward, value, octets}
 
 pub onward-append : (a : ℕ) (xs ys : List ℕ) → onward a (xs ++ ys) ≡ onward (onward a xs) ys
@@ -76,8 +77,4 @@ value-same xs ys e h k v =
 -- octets that are written are octets
 pub octets-octets : (n v : ℕ) → Octets (octets n v)
 octets-octets zero v = tt
-octets-octets (suc n) v = joined (octets n (v / 256)) (octets-octets n (v / 256)) (omega arith)
-  where
-    joined : (xs : List ℕ) {x : ℕ} → Octets xs → x < 256 → Octets (xs ++ x ∷ [])
-    joined [] h s = (s, tt)
-    joined (y ∷ ys) h s = (h .0, joined ys (h .1) s)
+octets-octets (suc n) v = all-push (λ (x : ℕ). x < 256) (octets n (v / 256)) (v % 256) (octets-octets n (v / 256)) (omega arith)

@@ -30,6 +30,10 @@ c1-of part = weighted part % 255
 abbrev pub sums-of : List ℕ → Sums
 sums-of part = record { c0 = c0-of part; c1 = c1-of part }
 
+-- the sums, running on over a part
+abbrev pub sums-then : Sums → List ℕ → Sums
+sums-then s part = record { c0 = (s .c0 + plain part) % 255; c1 = (s .c1 + length part * s .c0 + weighted part) % 255 }
+
 -- 0 is written as 255
 abbrev pub written : ℕ → ℕ
 written n = cond (eqb n 0) 255 n

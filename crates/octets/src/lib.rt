@@ -7,3 +7,5 @@ pub use checks::Sums;
 pub use ids::LspId;
 pub use ids::SourceId;
 pub use ids::SystemId;
+pub use ids::order;
+pub use ids::same;
