@@ -10,7 +10,8 @@ use Rattle.std.proofs.shelf.Ways.{tells}
 use Rattle.std.specs.declared.option.Option.{Option}
 use Rattle.std.specs.declared.option.Option.the-variants.{Some, None}
 use Rattle.std.specs.Options.{orOther}
-use Rattle.fault.specs.Order.{ranked, fails, before, sooner, soonest, Among, Answers}
+use Rattle.std.specs.declared.result.Result.the-variants.{Ok, Err}
+use Rattle.fault.specs.Order.{ranked, fails, unless, before, sooner, soonest, Among, Answers}
 
 pub ranked-trans : (a b c d e f : ℕ) → ranked a b c d ≡ true → ranked c d e f ≡ true → ranked a b e f ≡ true
 ranked-trans a b c d e f p q = grind (arith, tells)
@@ -118,9 +119,23 @@ module _ {F : Type 0} (rank place : F → ℕ) where
   between-fails lo x true h = (h, ranked-self (rank x) (place x))
   between-fails lo x false h = h
 
+pub foremost-append : {F : Type 0} (rank place : F → ℕ) (rs ss : List (Option F)) →
+  foremost rank place (rs ++ ss) ≡ orOther (foremost rank place rs) (foremost rank place ss)
+foremost-append rank place [] ss = refl
+foremost-append rank place (None ∷ rs) ss = foremost-append rank place rs ss
+foremost-append rank place (Some a ∷ rs) ss = refl
+
 pub fails-not : {F : Type 0} (c : Bool) (x : F) → fails c x ≡ None → c ≡ false
 fails-not false x h = refl
 fails-not true x h = let z : _≡_ {A = ℕ} 0 1 = cc in absurd (omega arith)
 
 pub not-fails : {F : Type 0} (c : Bool) (x : F) → c ≡ false → fails c x ≡ None
 not-fails c x e = rw e refl
+
+pub unless-err : {A F : Type 0} (o : Option F) (a : A) (e : F) → unless o a ≡ Err e → o ≡ Some e
+unless-err None a e h = let z : _≡_ {A = ℕ} 0 1 = cc in absurd (omega arith)
+unless-err (Some x) a e h = cc
+
+pub unless-ok : {A F : Type 0} (o : Option F) (a b : A) → unless o a ≡ Ok b → o ≡ None
+unless-ok None a b h = refl
+unless-ok (Some x) a b h = let z : _≡_ {A = ℕ} 0 1 = cc in absurd (omega arith)

@@ -7,6 +7,8 @@ use mathlib.Core.List.{List, [], _∷_}
 use lib.Dec.{eqb, ltb, leb}
 use Rattle.std.specs.declared.option.Option.{Option}
 use Rattle.std.specs.declared.option.Option.the-variants.{Some, None}
+use Rattle.std.specs.declared.result.Result.{Result}
+use Rattle.std.specs.declared.result.Result.the-variants.{Ok, Err}
 use Rattle.fault.specs.declared.FrameFault.{FrameFault}
 use Rattle.fault.specs.declared.FrameFault.the-variants.{Short, Fixed, Kind, Header, Length, Size, Field, Body, Tail, Lifetime, Number, Range, Order, Summary, Check}
 use Rattle.fault.specs.declared.CallFault.{CallFault}
@@ -52,6 +54,11 @@ ranked r p s q = ltb r s || (eqb r s && leb p q)
 -- refused where the cause is there
 abbrev pub fails : {F : Type 0} → Bool → F → Option F
 fails cause fault = cond cause (Some fault) None
+
+-- refused where there is a fault, else the answer
+abbrev pub unless : {A F : Type 0} → Option F → A → Result A F
+unless None a = Ok a
+unless (Some e) a = Err e
 
 -- over refusals of any type, with their rank and place
 module _ {F : Type 0} (rank place : F → ℕ) where

@@ -37,10 +37,12 @@ abbrev pub size-of : Option Kind → ℕ
 size-of None = 0
 size-of (Some k) = header-size k
 
--- the length at octet 8 is absent or not the octets present, which are under the header or over 275
+-- the length at octet 8 is absent or not the octets present, or these are under the header or over 275
+abbrev pub length-off : ℕ → List ℕ → Bool
+length-off size f = ltb (length f) 10 || (not (eqb (field 8 2 f) (length f)) || (ltb (length f) size || ltb 275 (length f)))
+
 abbrev pub length-wrong : List ℕ → Bool
-length-wrong f =
-    ltb (length f) 10 || (not (eqb (field 8 2 f) (length f)) || (ltb (length f) (size-of (kind-of f)) || ltb 275 (length f)))
+length-wrong f = length-off (size-of (kind-of f)) f
 
 -- the faults of all kinds
 abbrev pub header-faults : List ℕ → List (Option FrameFault)
@@ -51,6 +53,16 @@ header-faults f =
     ∷ fails (not (eqb (getD f 1 0) (size-of (kind-of f)))) Header
     ∷ fails (length-wrong f) Length
     ∷ []
+
+-- the kind of a frame without a header fault
+abbrev pub headed : Option FrameFault → Option Kind → Result Kind FrameFault
+headed (Some e) k = Err e
+headed None None = Err Unknown-kind
+headed None (Some k) = Ok k
+
+-- what a header answers
+abbrev pub header-answer : List ℕ → Result Kind FrameFault
+header-answer f = headed (first-fault (header-faults f)) (kind-of f)
 
 -- a live LSP's check octets are wrong
 abbrev pub check-wrong : List ℕ → Bool

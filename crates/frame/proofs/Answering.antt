@@ -1,0 +1,114 @@
+-- The faults of a frame rise in rank and place as they are listed, so the first of them is answered.
+use Prim.Native.Nat.{ℕ, _+_, _≤_, _<_}
+use mathlib.Core.Path.{_≡_, refl, ap, sym, subst, _∙_}
+use mathlib.Core.Bool.{Bool, true, false, cond, _&&_, _||_, not}
+use mathlib.Core.List.{List, [], _∷_, _++_}
+use lib.ListN.{length, getD, drop}
+use lib.Dec.{eqb, ltb, leb}
+use borrow.Author.Tests.{le-leb}
+use native.Mathlib.Omega.{arith}
+use Rattle.std.specs.Options.{orOther, isSome}
+use Rattle.std.specs.declared.option.Option.{Option}
+use Rattle.std.specs.declared.option.Option.the-variants.{Some, None}
+use Rattle.std.specs.declared.result.Result.{Result}
+use Rattle.std.specs.declared.result.Result.the-variants.{Ok, Err}
+use Rattle.fault.specs.declared.FrameFault.{FrameFault}
+use Rattle.fault.specs.declared.FrameFault.the-variants.{Short, Fixed, Kind as Unknown-kind, Header, Length, Field, Body, Tail, Lifetime, Number, Range, Order, Check}
+use Rattle.fault.specs.Order.{frame-rank, before, first-fault, fails, unless}
+use Rattle.fault.specs.Refusals.{frame-place}
+use Rattle.fault.proofs.Laws.{Rising, Between, foremost, foremost-append, rising-first, between-fails, ranked-self}
+use Rattle.octets.specs.Octets.{field}
+use Rattle.octets.specs.Fields.{broken-field, body-faults}
+use Rattle.frame.specs.declared.kind.Kind.{Kind}
+use Rattle.frame.specs.declared.kind.Kind.the-variants.{Lsp, Csnp, Psnp}
+use Rattle.frame.specs.Messages.{SnpEntry, Pdu}
+use Rattle.frame.specs.Reading.{fixed, wrong-octet, kind-of, size-of, length-off, length-wrong, header-faults, headed, header-answer, check-wrong, lsp-faults, tail-right, entries-of, entries-faults, last-id, csnp-faults, psnp-faults, kind-faults, faults, refusal, said, answered, decode}
+use Rattle.frame.proofs.FieldLaws.{broken-behind}
+
+abbrev Rise : FrameFault → List (Option FrameFault) → Type 0
+Rise lo rs = Rising frame-rank frame-place lo rs
+
+abbrev In-between : FrameFault → Option FrameFault → FrameFault → Type 0
+In-between lo r hi = Between frame-rank frame-place lo r hi
+
+abbrev pub first-of : List (Option FrameFault) → Option FrameFault
+first-of rs = foremost frame-rank frame-place rs
+
+may-fail : (lo x : FrameFault) (c : Bool) → before frame-rank frame-place lo x ≡ true → In-between lo (fails c x) x
+may-fail lo x c h = between-fails frame-rank frame-place lo x c h
+
+fixed-between : (n : ℕ) (a b c d e g : Bool) →
+  In-between (Short n)
+  (cond a (cond b (cond c (cond d (cond e (cond g None (Some (Fixed 7))) (Some (Fixed 6))) (Some (Fixed 5))) (Some (Fixed 3))) (Some (Fixed 2))) (Some (Fixed 0)))
+  (Fixed 8)
+fixed-between n false b c d e g = (refl, refl)
+fixed-between n true false c d e g = (refl, refl)
+fixed-between n true true false d e g = (refl, refl)
+fixed-between n true true true false e g = (refl, refl)
+fixed-between n true true true true false g = (refl, refl)
+fixed-between n true true true true true false = (refl, refl)
+fixed-between n true true true true true true = refl
+
+header-rising : (f : List ℕ) (rest : List (Option FrameFault)) → Rise Length rest → Rise (Short (length f)) (header-faults f ++ rest)
+header-rising f rest h =
+    (Short (length f), may-fail (Short (length f)) (Short (length f)) _ (ranked-self 10 (length f)),
+    (Fixed 8, fixed-between (length f) (eqb (getD f 0 0) 131) (eqb (getD f 2 0) 1) (eqb (getD f 3 0) 0) (eqb (getD f 5 0) 1) (eqb (getD f 6 0) 0) (eqb (getD f 7 0) 0),
+    (Unknown-kind, may-fail (Fixed 8) Unknown-kind _ refl,
+    (Header, may-fail Unknown-kind Header _ refl,
+    (Length, may-fail Header Length _ refl, h)))))
+
+broken-between : (at : ℕ) (body : List ℕ) (r : Option FrameFault) → broken-field at body ≡ r → In-between (Body at) r (Lifetime 10)
+broken-between at body None e = refl
+broken-between at body (Some x) e =
+    let b = broken-behind at body x e in
+    subst (λ (y : FrameFault). In-between (Body at) (Some y) (Lifetime 10)) (sym (b .1)) (le-leb at (b .0) (b .2), refl)
+
+lsp-rising : (f : List ℕ) → Rise Length (lsp-faults f)
+lsp-rising f =
+    (Body 27, may-fail Length (Body 27) _ refl,
+    (Lifetime 10, broken-between 27 (drop 27 f) _ refl,
+    (Lifetime 10, may-fail (Lifetime 10) (Lifetime 10) _ refl,
+    (Number, may-fail (Lifetime 10) Number _ refl,
+    (Check, may-fail Number Check _ refl, tt)))))
+
+entries-rising : (es : List SnpEntry) (at low high : ℕ) (lo : FrameFault) → before frame-rank frame-place lo (Lifetime at) ≡ true →
+  Rise lo (entries-faults at low high es)
+entries-rising [] at low high lo h = tt
+entries-rising (e ∷ es) at low high lo h =
+    (Lifetime at, may-fail lo (Lifetime at) _ h,
+    (Order (at + 2), may-fail (Lifetime at) (Order (at + 2)) _ (le-leb at (at + 2) (omega arith)),
+    entries-rising es (at + 16) (e .id + 1) high (Order (at + 2)) (le-leb (at + 2) (at + 16) (omega arith))))
+
+kind-rising : (o : Option Kind) (f : List ℕ) → Rise Length (kind-faults o f)
+kind-rising None f = tt
+kind-rising (Some Lsp) f = lsp-rising f
+kind-rising (Some Csnp) f =
+    (Tail 33, may-fail Length (Tail 33) _ refl,
+    (Range, may-fail (Tail 33) Range _ refl, entries-rising (entries-of 33 f) 35 (field 17 8 f) (field 25 8 f) Range refl))
+kind-rising (Some Psnp) f =
+    (Tail 17, may-fail Length (Tail 17) _ refl, entries-rising (entries-of 17 f) 19 0 last-id (Tail 17) refl)
+
+-- the first fault that is there is the one that is answered
+pub first-header : (f : List ℕ) → first-fault (header-faults f) ≡ first-of (header-faults f)
+first-header f = rising-first frame-rank frame-place (Short (length f)) (header-faults f) (header-rising f [] tt)
+
+pub first-kind : (o : Option Kind) (f : List ℕ) → first-fault (kind-faults o f) ≡ first-of (kind-faults o f)
+first-kind o f = rising-first frame-rank frame-place Length (kind-faults o f) (kind-rising o f)
+
+-- the header's fault, or else the kind's
+pub first-refusal : (f : List ℕ) → refusal f ≡ orOther (first-fault (header-faults f)) (first-fault (kind-faults (kind-of f) f))
+first-refusal f =
+    let k = kind-faults (kind-of f) f in
+    let a : refusal f ≡ first-of (faults f) =
+      rising-first frame-rank frame-place (Short (length f)) (faults f) (header-rising f k (kind-rising (kind-of f) f))
+    in
+    let b : first-of (faults f) ≡ orOther (first-of (header-faults f)) (first-of k) = foremost-append frame-rank frame-place (header-faults f) k in
+    let c : first-fault (header-faults f) ≡ first-of (header-faults f) = first-header f in
+    let d : first-fault k ≡ first-of k = first-kind (kind-of f) f in
+    a ∙ b ∙ rw (c, d) refl
+
+header-first : (f : List ℕ) → header-answer f ≡ headed (first-of (header-faults f)) (kind-of f)
+header-first f = ap (λ (o : Option FrameFault). headed o (kind-of f)) (first-header f)
+
+pub header-fixed : (f : List ℕ) → ltb (length f) 8 ≡ false → (e : FrameFault) → wrong-octet fixed f ≡ Some e → header-answer f ≡ Err e
+header-fixed f a e b = header-first f ∙ rw (a, b) refl
