@@ -1,3 +1,4 @@
 pub mod Octets
 pub mod Checks
 pub mod Fields
+pub mod Worked

@@ -4,6 +4,10 @@ mod ids;
 
 pub use checks::CheckOctets;
 pub use checks::Sums;
+pub use checks::check_octets;
+pub use checks::covered;
+pub use checks::is_right;
+pub use checks::sums_of;
 pub use ids::LspId;
 pub use ids::SourceId;
 pub use ids::SystemId;
