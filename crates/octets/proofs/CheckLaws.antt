@@ -1,16 +1,19 @@
 -- The sums over octets, and why check octets that are computed are the only right ones.
 use Prim.Native.Nat.{ℕ, zero, suc, _+_, _*_, _-_, _/_, _%_, _≤_, _<_}
 use mathlib.Core.Path.{_≡_, refl, ap, sym, _∙_}
+use mathlib.Core.Logic.{_⊎_, inl, inr}
 use mathlib.Core.Bool.{Bool, true, false, cond, _&&_, not}
-use mathlib.Core.List.{List, [], _∷_, _++_}
+use mathlib.Core.List.{List, [], _∷_, _++_, append-assoc}
 use lib.Dec.{eqb, leb}
 use lib.ListN.{length, getD, take, drop}
+use native.Mathlib.Nat.{mul-add, add-mul, suc-mul, one-mul}
 use native.Mathlib.Omega.{arith}
 use Rattle.std.proofs.shelf.Lists.{length-append, length-take-le, length-drop, getD-at, getD-append-add, take-append-drop, drop-more}
 use Rattle.std.proofs.shelf.Elements.{all-getD}
-use Rattle.std.proofs.shelf.Tests.{and-parts, and-from, leb-true, le-leb, eqb-true, eqb-false, eq-eqb, ne-eqb, not-true, not-from-false}
+use Rattle.std.proofs.shelf.Tests.{and-parts, and-from, and-left, and-right, lt-leb, leb-true, le-leb, eqb-true, eqb-false, eq-eqb, ne-eqb, not-true, not-from-false}
 use Rattle.octets.specs.Octets.{Octets}
 use Rattle.octets.specs.Checks.{plain, weighted, c0-of, c1-of, sums-of, sums-then, written, made-octets, has-places, with-check, unchecked, check-octets, own-check, right, Computed-right, Right-computed}
+use Rattle.octets.specs.Worked.{Worked}
 use Rattle.octets.specs.declared.checks.CheckOctets.{CheckOctets}
 use Rattle.octets.specs.declared.checks.Sums.{Sums}
 
@@ -26,8 +29,13 @@ weighted-append (x ∷ a) b =
     let e : (length (a ++ b) + 1) * x ≡ (length a + length b + 1) * x = ap (λ (k : ℕ). (k + 1) * x) n in
     omega arith
 
+-- one octet more: what is left is weighted by one less
+pub weighted-step : (b : ℕ) (bs : List ℕ) (x y : ℕ) →
+  y + length (b ∷ bs) * x + weighted (b ∷ bs) ≡ (y + (x + b)) + length bs * (x + b) + weighted bs
+weighted-step b bs x y = omega (arith, suc-mul (length bs) x, add-mul (length bs) 1 b, one-mul b, mul-add (length bs) x b)
+
 -- a sum reduced before it runs on is the same modulo 255
-running : (c d n v : ℕ) → (d % 255 + n * (c % 255) + v) % 255 ≡ (d + n * c + v) % 255
+pub running : (c d n v : ℕ) → (d % 255 + n * (c % 255) + v) % 255 ≡ (d + n * c + v) % 255
 running c d n v =
     let e : n * c ≡ n * (c % 255 + 255 * (c / 255)) = ap (λ (z : ℕ). n * z) (omega arith) in
     omega arith
@@ -39,6 +47,15 @@ sums-append a b =
       ap (λ (n : ℕ). n % 255) (weighted-append a b) ∙ sym (running (plain a) (weighted a) (length b) (weighted b))
     in
     cc
+
+-- over three pieces, one after another
+pub sums-pieces : (a b d : List ℕ) → sums-then (sums-then (sums-then (sums-of []) a) b) d ≡ sums-of (a ++ (b ++ d))
+sums-pieces a b d =
+    let e : sums-then (sums-of []) a ≡ sums-of a = sym (sums-append [] a) in
+    let f : sums-then (sums-of a) (b ++ d) ≡ sums-then (sums-then (sums-of a) b) d =
+      sym (sums-append a (b ++ d)) ∙ ap sums-of (sym (append-assoc a b d)) ∙ sums-append (a ++ b) d ∙ ap (λ (s : Sums). sums-then s d) (sums-append a b)
+    in
+    ap (λ (s : Sums). sums-then (sums-then s b) d) e ∙ sym f ∙ sym (sums-append a (b ++ d))
 
 -- what is written is the remainder, or 255 for 0
 written-suc : (n : ℕ) → written (suc n) ≡ suc n
@@ -90,6 +107,11 @@ same-check a b e f =
     let made : ℕ → ℕ → CheckOctets = λ m n. record { x = m; y = n } in
     ap (λ (n : ℕ). made n (a .y)) e ∙ ap (made (b .x)) f
 
+pub same-sums : (a b : Sums) → a .c0 ≡ b .c0 → a .c1 ≡ b .c1 → a ≡ b
+same-sums a b e f =
+    let made : ℕ → ℕ → Sums = λ m n. record { c0 = m; c1 = n } in
+    ap (λ (n : ℕ). made n (a .c1)) e ∙ ap (made (b .c0)) f
+
 -- over the octets a before the two, and b after them
 module _ (a b : List ℕ) where
   plain-with : (x y : ℕ) → plain (a ++ x ∷ y ∷ b) ≡ plain (a ++ 0 ∷ 0 ∷ b) + (x + y)
@@ -97,6 +119,14 @@ module _ (a b : List ℕ) where
 
   weighted-with : (x y : ℕ) → weighted (a ++ x ∷ y ∷ b) ≡ weighted (a ++ 0 ∷ 0 ∷ b) + ((length b + 1 + 1) * x + (length b + 1) * y)
   weighted-with x y = omega (arith, weighted-append a (x ∷ y ∷ b), weighted-append a (0 ∷ 0 ∷ b))
+
+-- how many octets stand behind counts modulo 255
+pub made-behind : (k c d : ℕ) → made-octets (k % 255) c d ≡ made-octets k c d
+made-behind k c d =
+    let e : k * c ≡ (k % 255 + 255 * (k / 255)) * c = ap (λ (z : ℕ). z * c) (omega arith) in
+    let x : (k % 255 * c + (255 - d)) % 255 ≡ (k * c + (255 - d)) % 255 = omega arith in
+    let y : ((k % 255 + 1) * c) % 255 ≡ ((k + 1) * c) % 255 = omega arith in
+    same-check (made-octets (k % 255) c d) (made-octets k c d) (ap written x) (ap (λ (n : ℕ). written ((d + (255 - n)) % 255)) y)
 
 -- computed octets, over sums p and w
 module _ (p w k : ℕ) where
@@ -209,8 +239,17 @@ places p part h =
     let a = and-parts (leb 1 p) (leb (p + 1) (length part)) h in
     (leb-true 1 p (a .0), leb-true (p + 1) (length part) (a .1))
 
+pub has-them : (p : ℕ) (part : List ℕ) → (p ≡ 0 → ⊥) → p < length part → has-places p part ≡ true
+has-them p part h l = and-from (leb 1 p) (leb (p + 1) (length part)) (le-leb 1 p (omega arith)) (le-leb (p + 1) (length part) (omega arith))
+
+pub has-none : (p : ℕ) (part : List ℕ) → (p ≡ 0) ⊎ ((p ≡ 0 → ⊥) × (length part ≤ p)) → has-places p part ≡ false
+has-none p part h = elim h [ inl e ↦ and-left (leb 1 p) _ (lt-leb 1 p (omega arith)) | inr g ↦ and-right (leb 1 p) _ (lt-leb (p + 1) (length part) (omega arith)) ]
+
 pub computed-right : Computed-right
 computed-right p part h = let a = places p part h in computed-at p part (a .0) (a .1)
 
 pub right-computed : Right-computed
 right-computed p part h r = let a = places p part (and-parts (has-places p part) _ r .0) in right-at p part (a .0) (a .1) h r
+
+pub worked : Worked
+worked = record { one = refl; two = refl; body = refl; zero = refl }

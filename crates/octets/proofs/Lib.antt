@@ -1,3 +1,5 @@
 pub mod Numbers
 pub mod CheckLaws
 pub mod Orders
+pub mod Parts
+pub mod FieldLaws

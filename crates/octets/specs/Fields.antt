@@ -1,6 +1,7 @@
 -- Fields: a code octet, a length octet, then that many octets. A body is whole fields.
 use Prim.Native.Nat.{ℕ, zero, suc, _+_}
-use mathlib.Core.Bool.{Bool, cond, _&&_}
+use mathlib.Core.Path.{_≡_}
+use mathlib.Core.Bool.{Bool, true, cond, _&&_}
 use mathlib.Core.List.{List, [], _∷_, _++_}
 use lib.Dec.{leb, ltb}
 use lib.ListN.{length, getD, take, drop}
@@ -20,6 +21,15 @@ value-part p = take (getD p 1 0) (drop 2 p)
 
 abbrev pub after : List ℕ → List ℕ
 after p = drop (2 + getD p 1 0) p
+
+-- a field that is read off the front of a part: its code, its value, and what remains
+pub record Front (p : List ℕ) (code : ℕ) (value rest : List ℕ) : Type 0 where
+  pub whole : stands p ≡ true
+  pub code-is : code ≡ getD p 0 0
+  pub value-is : value ≡ value-part p
+  pub rest-is : rest ≡ after p
+  pub value-length : length value ≡ getD p 1 0
+  pub rest-length : length rest + (2 + getD p 1 0) ≡ length p
 
 -- whole fields
 pub data Whole : List ℕ → Type 0 where
