@@ -23,7 +23,7 @@ use Rattle.frame.specs.declared.kind.Kind.{Kind}
 use Rattle.frame.specs.declared.kind.Kind.the-variants.{Lsp, Csnp, Psnp}
 use Rattle.frame.specs.Messages.{SnpEntry, Pdu}
 use Rattle.frame.specs.Reading.{fixed, wrong-octet, kind-of, size-of, length-off, length-wrong, header-faults, headed, header-answer, check-wrong, lsp-faults, tail-right, entries-of, entries-faults, last-id, csnp-faults, psnp-faults, kind-faults, faults, refusal, said, answered, decode}
-use Rattle.frame.proofs.FieldLaws.{broken-behind}
+use Rattle.octets.proofs.FieldLaws.{broken-place}
 
 abbrev Rise : FrameFault → List (Option FrameFault) → Type 0
 Rise lo rs = Rising frame-rank frame-place lo rs
@@ -60,7 +60,7 @@ header-rising f rest h =
 broken-between : (at : ℕ) (body : List ℕ) (r : Option FrameFault) → broken-field at body ≡ r → In-between (Body at) r (Lifetime 10)
 broken-between at body None e = refl
 broken-between at body (Some x) e =
-    let b = broken-behind at body x e in
+    let b = broken-place at body x e in
     subst (λ (y : FrameFault). In-between (Body at) (Some y) (Lifetime 10)) (sym (b .1)) (le-leb at (b .0) (b .2), refl)
 
 lsp-rising : (f : List ℕ) → Rise Length (lsp-faults f)

@@ -16,7 +16,7 @@ use Rattle.octets.specs.Checks.{right}
 use Rattle.octets.specs.Fields.{Whole, broken-field}
 use Rattle.octets.specs.declared.checks.CheckOctets.{CheckOctets}
 use Rattle.octets.proofs.Numbers.{value-octets}
-use Rattle.frame.proofs.FieldLaws.{whole-unbroken, unbroken-whole}
+use Rattle.octets.proofs.FieldLaws.{whole-none, none-whole}
 use Rattle.frame.specs.declared.kind.Kind.the-variants.{Lsp}
 use Rattle.frame.specs.Messages.{LspPdu, lsp, covered-part, encode}
 use Rattle.frame.specs.Reading.{lsp-faults, lsp-in, check-wrong, check-at}
@@ -57,7 +57,7 @@ module _ (f : List ℕ) (m : LspPdu) (l : Lays f m) where
   lsp-none h =
       let n : length (drop 27 f) ≡ length (m .body) = ap (length {A = ℕ}) (l .body) in
       (not-fails (ltb 100 (length (drop 27 f))) (Body 27) (le-ltb 100 (length (drop 27 f)) (omega (arith, n, h .body))),
-      (ap (broken-field 27) (l .body) ∙ whole-unbroken 27 (m .body) (h .fields),
+      (ap (broken-field 27) (l .body) ∙ whole-none 27 (h .fields),
       (not-fails _ (Lifetime 10) (le-ltb 1200 (field 10 2 f) (omega (arith, l .lifetime, h .lifetime))),
       (not-fails _ Number (ne-eqb (field 20 4 f) 0 (λ e. omega (arith, l .number, h .issued, e))),
       (not-fails (check-wrong f) Check (live _ _ (λ p. ap (right 13) (l .sums) ∙ h .sums (omega (arith, l .lifetime, p)))), tt)))))
@@ -99,6 +99,6 @@ module _ (f : List ℕ) (h : Octets f) (l : Heads f Lsp) where
       let s : check-wrong f ≡ false = fails-not (check-wrong f) Check (p .1 .1 .1 .1 .0) in
       record {
         lifetime = t; id = field-under f 12 8 h (omega (arith, l .long)); number = field-under f 20 4 h (omega (arith, l .long)); issued = omega (arith, z);
-        body = n; fields = unbroken-whole 27 (drop 27 f) (p .1 .0);
+        body = n; fields = none-whole 27 (drop 27 f) (p .1 .0);
         sums = λ v. ap (right 13) c ∙ live-on (field 10 2 f) (right 13 (drop 12 f)) s v
       }

@@ -18,7 +18,7 @@ use Rattle.fault.specs.declared.FrameFault.the-variants.{Field, Body}
 use Rattle.fault.specs.Refusals.{frame-place}
 use Rattle.fault.specs.Order.{fails, frame-rank, ranked, sooner}
 use Rattle.fault.proofs.Laws.{Between, Rising, foremost, none-of, rising-first, between-fails, ranked-self}
-use Rattle.octets.specs.Answers.{unless}
+use Rattle.fault.specs.Order.{unless}
 use Rattle.octets.specs.Fields.{stands, after, Front, Whole, none, field, broken-within, broken-field, body-faults, body-fault}
 
 after-short : (xs : List ℕ) (n : ℕ) → length xs ≤ suc n → length (after xs) ≤ n

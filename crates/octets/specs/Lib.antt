@@ -1,5 +1,4 @@
 pub mod Octets
-pub mod Answers
 pub mod Checks
 pub mod Fields
 pub mod Worked

@@ -6,7 +6,7 @@ ghost use lib.ListN.{length};
 ghost use Rattle.std.specs.Results.{Cases as ByOk};
 ghost use Rattle.std.specs.declared.result.Result.the-variants.{Ok, Err};
 ghost use Rattle.fault.specs.declared.FrameFault.the-variants.{Field};
-ghost use Rattle.octets.specs.Answers.{unless};
+ghost use Rattle.fault.specs.Order.{unless};
 ghost use Rattle.octets.specs.Fields.{stands, Front, Whole, body-fault};
 use fault::FrameFault;
 

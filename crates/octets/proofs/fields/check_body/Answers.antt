@@ -7,7 +7,7 @@ use Rattle.std.proofs.shelf.Tests.{eqb-true, eqb-false}
 use Rattle.std.specs.declared.option.Option.the-variants.{Some, None}
 use Rattle.std.specs.declared.result.Result.the-variants.{Ok, Err}
 use Rattle.fault.specs.declared.FrameFault.the-variants.{Field}
-use Rattle.octets.specs.Answers.{unless}
+use Rattle.fault.specs.Order.{unless}
 use Rattle.octets.specs.Fields.{body-fault}
 use Rattle.octets.proofs.FieldLaws.{broken-past, broken-here, broken-end, checked-whole, checked-fits, checked-long, checked-short}
 use Rattle.octets.proofs.fields.check_body.Needs as need
