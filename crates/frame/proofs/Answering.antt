@@ -5,7 +5,7 @@ use mathlib.Core.Bool.{Bool, true, false, cond, _&&_, _||_, not}
 use mathlib.Core.List.{List, [], _∷_, _++_}
 use lib.ListN.{length, getD, drop}
 use lib.Dec.{eqb, ltb, leb}
-use borrow.Author.Tests.{le-leb}
+use borrow.Author.Tests.{le-leb, le-ltb, lt-ltb, eq-eqb, ne-eqb}
 use native.Mathlib.Omega.{arith}
 use Rattle.std.specs.Options.{orOther, isSome}
 use Rattle.std.specs.declared.option.Option.{Option}
@@ -16,14 +16,14 @@ use Rattle.fault.specs.declared.FrameFault.{FrameFault}
 use Rattle.fault.specs.declared.FrameFault.the-variants.{Short, Fixed, Kind as Unknown-kind, Header, Length, Field, Body, Tail, Lifetime, Number, Range, Order, Check}
 use Rattle.fault.specs.Order.{frame-rank, before, first-fault, fails, unless}
 use Rattle.fault.specs.Refusals.{frame-place}
-use Rattle.fault.proofs.Laws.{Rising, Between, foremost, foremost-append, rising-first, between-fails, ranked-self}
+use Rattle.fault.proofs.Laws.{unless-ok, unless-err, Rising, Between, foremost, foremost-append, rising-first, between-fails, ranked-self}
 use Rattle.octets.specs.Octets.{field}
-use Rattle.octets.specs.Fields.{broken-field, body-faults}
+use Rattle.octets.specs.Fields.{broken-field, body-faults, body-fault}
 use Rattle.frame.specs.declared.kind.Kind.{Kind}
 use Rattle.frame.specs.declared.kind.Kind.the-variants.{Lsp, Csnp, Psnp}
 use Rattle.frame.specs.Messages.{SnpEntry, Pdu}
 use Rattle.frame.specs.Reading.{fixed, wrong-octet, kind-of, size-of, length-off, length-wrong, header-faults, headed, header-answer, check-wrong, lsp-faults, tail-right, entries-of, entries-faults, last-id, csnp-faults, psnp-faults, kind-faults, faults, refusal, said, answered, decode}
-use Rattle.octets.proofs.FieldLaws.{broken-place}
+use Rattle.octets.proofs.FieldLaws.{broken-place, body-first}
 
 abbrev Rise : FrameFault → List (Option FrameFault) → Type 0
 Rise lo rs = Rising frame-rank frame-place lo rs
@@ -112,3 +112,40 @@ header-first f = ap (λ (o : Option FrameFault). headed o (kind-of f)) (first-he
 
 pub header-fixed : (f : List ℕ) → ltb (length f) 8 ≡ false → (e : FrameFault) → wrong-octet fixed f ≡ Some e → header-answer f ≡ Err e
 header-fixed f a e b = header-first f ∙ rw (a, b) refl
+
+-- an LSP's first fault: the body's, or else that of lifetime, number and check octets
+abbrev header-checks : List ℕ → List (Option FrameFault)
+header-checks f =
+    fails (ltb 1200 (field 10 2 f)) (Lifetime 10) ∷ fails (eqb (field 20 4 f) 0) Number ∷ fails (check-wrong f) Check ∷ []
+
+lsp-first : (f : List ℕ) → first-fault (lsp-faults f) ≡ orOther (body-fault 27 (drop 27 f)) (first-of (header-checks f))
+lsp-first f =
+    let a : first-of (lsp-faults f) ≡ orOther (first-of (body-faults 27 (drop 27 f))) (first-of (header-checks f)) =
+      foremost-append frame-rank frame-place (body-faults 27 (drop 27 f)) (header-checks f)
+    in
+    first-kind (Some Lsp) f ∙ a ∙ ap (λ (o : Option FrameFault). orOther o (first-of (header-checks f))) (sym (body-first 27 (drop 27 f)))
+
+pub lsp-body : (f : List ℕ) (e : FrameFault) → body-fault 27 (drop 27 f) ≡ Some e → first-fault (lsp-faults f) ≡ Some e
+lsp-body f e b = lsp-first f ∙ rw b refl
+
+module _ (f : List ℕ) (b : body-fault 27 (drop 27 f) ≡ None) where
+  pub lsp-lifetime : 1200 < field 10 2 f → first-fault (lsp-faults f) ≡ Some (Lifetime 10)
+  lsp-lifetime l = lsp-first f ∙ rw (b, lt-ltb 1200 (field 10 2 f) l) refl
+
+  module _ (l : field 10 2 f ≤ 1200) where
+    pub lsp-number : field 20 4 f ≡ 0 → first-fault (lsp-faults f) ≡ Some Number
+    lsp-number n = lsp-first f ∙ rw (b, le-ltb 1200 (field 10 2 f) l, eq-eqb (field 20 4 f) 0 n) refl
+
+    module _ (n : field 20 4 f ≡ 0 → ⊥) where
+      pub lsp-check : check-wrong f ≡ true → first-fault (lsp-faults f) ≡ Some Check
+      lsp-check c = lsp-first f ∙ rw (b, le-ltb 1200 (field 10 2 f) l, ne-eqb (field 20 4 f) 0 n, c) refl
+
+      pub lsp-right : check-wrong f ≡ false → first-fault (lsp-faults f) ≡ None
+      lsp-right c = lsp-first f ∙ rw (b, le-ltb 1200 (field 10 2 f) l, ne-eqb (field 20 4 f) 0 n, c) refl
+
+-- what the check of a body answered, of the octets behind the header
+pub body-clear : (f body : List ℕ) → body ≡ drop 27 f → _≡_ {A = Result (Unit {0}) FrameFault} (Ok tt) (unless (body-fault 27 body) tt) → body-fault 27 (drop 27 f) ≡ None
+body-clear f body e h = ap (body-fault 27) (sym e) ∙ unless-ok (body-fault 27 body) tt tt (sym h)
+
+pub body-refused : (f body : List ℕ) (x : FrameFault) → body ≡ drop 27 f → _≡_ {A = Result (Unit {0}) FrameFault} (Err x) (unless (body-fault 27 body) tt) → body-fault 27 (drop 27 f) ≡ Some x
+body-refused f body x e h = ap (body-fault 27) (sym e) ∙ unless-err (body-fault 27 body) tt x (sym h)

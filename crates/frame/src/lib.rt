@@ -2,6 +2,7 @@
 mod cells;
 mod header;
 mod kind;
+mod lsp;
 mod message;
 
 pub use kind::Kind;
