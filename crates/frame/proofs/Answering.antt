@@ -1,5 +1,5 @@
 -- The faults of a frame rise in rank and place as they are listed, so the first of them is answered.
-use Prim.Native.Nat.{ℕ, _+_, _≤_, _<_}
+use Prim.Native.Nat.{ℕ, suc, _+_, _-_, _*_, _≤_, _<_}
 use mathlib.Core.Path.{_≡_, refl, ap, sym, subst, _∙_}
 use mathlib.Core.Bool.{Bool, true, false, cond, _&&_, _||_, not}
 use mathlib.Core.List.{List, [], _∷_, _++_}
@@ -22,7 +22,7 @@ use Rattle.octets.specs.Fields.{broken-field, body-faults, body-fault}
 use Rattle.frame.specs.declared.kind.Kind.{Kind}
 use Rattle.frame.specs.declared.kind.Kind.the-variants.{Lsp, Csnp, Psnp}
 use Rattle.frame.specs.Messages.{SnpEntry, Pdu}
-use Rattle.frame.specs.Reading.{fixed, wrong-octet, kind-of, size-of, length-off, length-wrong, header-faults, headed, header-answer, check-wrong, lsp-faults, tail-right, entries-of, entries-faults, last-id, csnp-faults, psnp-faults, kind-faults, faults, refusal, said, answered, decode}
+use Rattle.frame.specs.Reading.{fixed, wrong-octet, kind-of, size-of, length-off, length-wrong, header-faults, headed, header-answer, check-wrong, lsp-faults, tail-right, entry-at, entries-at, entries-of, entries-faults, last-id, csnp-faults, psnp-faults, kind-faults, faults, refusal, said, answered, decode}
 use Rattle.octets.proofs.FieldLaws.{broken-place, body-first}
 
 abbrev Rise : FrameFault → List (Option FrameFault) → Type 0
@@ -149,3 +149,83 @@ body-clear f body e h = ap (body-fault 27) (sym e) ∙ unless-ok (body-fault 27 
 
 pub body-refused : (f body : List ℕ) (x : FrameFault) → body ≡ drop 27 f → _≡_ {A = Result (Unit {0}) FrameFault} (Err x) (unless (body-fault 27 body) tt) → body-fault 27 (drop 27 f) ≡ Some x
 body-refused f body x e h = ap (body-fault 27) (sym e) ∙ unless-err (body-fault 27 body) tt x (sym h)
+
+pub first-entries : (es : List SnpEntry) (at low high : ℕ) → first-fault (entries-faults at low high es) ≡ first-of (entries-faults at low high es)
+first-entries es at low high =
+    rising-first frame-rank frame-place (Lifetime at) (entries-faults at low high es) (entries-rising es at low high (Lifetime at) (ranked-self 60 at))
+
+-- of n entries, the first fault of those from k on
+abbrev pub remaining : ℕ → ℕ → ℕ → ℕ → ℕ → List ℕ → Option FrameFault
+remaining n k place low high octets = first-of (entries-faults (place + 16 * k) low high (entries-at (n - k) (16 * k) octets))
+
+module _ (n k place low high : ℕ) (octets : List ℕ) (h : k < n) where
+  one-here : entries-at (n - k) (16 * k) octets ≡ entry-at (16 * k) octets ∷ entries-at (n - (k + 1)) (16 * k + 16) octets
+  one-here = let e : n - k ≡ suc (n - (k + 1)) = omega arith in ap (λ (m : ℕ). entries-at m (16 * k) octets) e
+
+  here : remaining n k place low high octets ≡ first-of (entries-faults (place + 16 * k) low high (entry-at (16 * k) octets ∷ entries-at (n - (k + 1)) (16 * k + 16) octets))
+  here = ap (λ (es : List SnpEntry). first-of (entries-faults (place + 16 * k) low high es)) one-here
+
+  pub here-lifetime : 1200 < field (16 * k) 2 octets → remaining n k place low high octets ≡ Some (Lifetime (place + 16 * k))
+  here-lifetime l = here ∙ rw (lt-ltb 1200 (field (16 * k) 2 octets) l) refl
+
+  module _ (l : field (16 * k) 2 octets ≤ 1200) where
+    pub here-order : (ltb (field (16 * k + 2) 8 octets) low || ltb high (field (16 * k + 2) 8 octets)) ≡ true →
+      remaining n k place low high octets ≡ Some (Order (place + 16 * k + 2))
+    here-order o = here ∙ rw (le-ltb 1200 (field (16 * k) 2 octets) l, o) refl
+
+    pub here-right : (ltb (field (16 * k + 2) 8 octets) low || ltb high (field (16 * k + 2) 8 octets)) ≡ false →
+      remaining n k place low high octets ≡ remaining n (k + 1) place (field (16 * k + 2) 8 octets + 1) high octets
+    here-right o =
+        let p : place + 16 * k + 16 ≡ place + 16 * (k + 1) = omega arith in
+        let q : 16 * k + 16 ≡ 16 * (k + 1) = omega arith in
+        here
+        ∙ rw (le-ltb 1200 (field (16 * k) 2 octets) l, o) refl
+        ∙ ap (λ (a : ℕ). first-of (entries-faults a (field (16 * k + 2) 8 octets + 1) high (entries-at (n - (k + 1)) (16 * k + 16) octets))) p
+        ∙ ap (λ (a : ℕ). first-of (entries-faults (place + 16 * (k + 1)) (field (16 * k + 2) 8 octets + 1) high (entries-at (n - (k + 1)) a octets))) q
+
+pub at-first : (n place low high : ℕ) (octets : List ℕ) → remaining n 0 place low high octets ≡ first-fault (entries-faults place low high (entries-at n 0 octets))
+at-first n place low high octets =
+    let p : place + 16 * 0 ≡ place = omega arith in
+    let q : n - 0 ≡ n = omega arith in
+    ap (λ (a : ℕ). first-of (entries-faults a low high (entries-at (n - 0) 0 octets))) p
+    ∙ ap (λ (m : ℕ). first-of (entries-faults place low high (entries-at m 0 octets))) q
+    ∙ sym (first-entries (entries-at n 0 octets) place low high)
+
+pub at-last : (n k place low high : ℕ) (octets : List ℕ) → n ≤ k → remaining n k place low high octets ≡ None
+at-last n k place low high octets h =
+    let e : n - k ≡ 0 = omega arith in
+    ap (λ (m : ℕ). first-of (entries-faults (place + 16 * k) low high (entries-at m (16 * k) octets))) e
+
+-- what a check answers
+pub refused : (o : Option FrameFault) (x y : FrameFault) → o ≡ Some x → y ≡ x → _≡_ {A = Result (Unit {0}) FrameFault} (Err y) (unless o tt)
+refused o x y p q = rw (p, q) refl
+
+pub let-through : (o : Option FrameFault) → o ≡ None → _≡_ {A = Result (Unit {0}) FrameFault} (Ok tt) (unless o tt)
+let-through o p = rw p refl
+
+-- a summary's first fault: the tail's, the range's, or an entry's
+pub csnp-tail-fault : (f : List ℕ) → tail-right (drop 33 f) ≡ false → first-fault (csnp-faults f) ≡ Some (Tail 33)
+csnp-tail-fault f t = first-kind (Some Csnp) f ∙ rw t refl
+
+module _ (f : List ℕ) (t : tail-right (drop 33 f) ≡ true) where
+  pub csnp-range-fault : field 25 8 f < field 17 8 f → first-fault (csnp-faults f) ≡ Some Range
+  csnp-range-fault r = first-kind (Some Csnp) f ∙ rw (t, lt-ltb (field 25 8 f) (field 17 8 f) r) refl
+
+  pub csnp-entries : field 17 8 f ≤ field 25 8 f →
+    first-fault (csnp-faults f) ≡ first-fault (entries-faults 35 (field 17 8 f) (field 25 8 f) (entries-of 33 f))
+  csnp-entries r =
+      first-kind (Some Csnp) f
+      ∙ rw (t, le-ltb (field 25 8 f) (field 17 8 f) r) refl
+      ∙ sym (first-entries (entries-of 33 f) 35 (field 17 8 f) (field 25 8 f))
+
+pub psnp-tail-fault : (f : List ℕ) → tail-right (drop 17 f) ≡ false → first-fault (psnp-faults f) ≡ Some (Tail 17)
+psnp-tail-fault f t = first-kind (Some Psnp) f ∙ rw t refl
+
+pub psnp-entries : (f : List ℕ) → tail-right (drop 17 f) ≡ true →
+  first-fault (psnp-faults f) ≡ first-fault (entries-faults 19 0 last-id (entries-of 17 f))
+psnp-entries f t = first-kind (Some Psnp) f ∙ rw t refl ∙ sym (first-entries (entries-of 17 f) 19 0 last-id)
+
+-- the same faults at entries that are the same
+pub same-first : (at low low′ high high′ : ℕ) (es es′ : List SnpEntry) → low ≡ low′ → high ≡ high′ → es ≡ es′ →
+  first-fault (entries-faults at low high es) ≡ first-fault (entries-faults at low′ high′ es′)
+same-first at low low′ high high′ es es′ p q r = rw (p, q, r) refl

@@ -1,5 +1,5 @@
 -- Entries of a summary, written and read back, at an offset that stays a variable.
-use Prim.Native.Nat.{ℕ, zero, suc, _+_, _-_, _*_, _/_, _%_, _≤_, _<_, _^_}
+use Prim.Native.Nat.{ℕ, zero, suc, _+_, _-_, _*_, _/_, _%_, min, _≤_, _<_, _^_}
 use mathlib.Core.Path.{_≡_, refl, ap, sym, _∙_}
 use mathlib.Core.Bool.{Bool, true, false, cond, _&&_, _||_, not}
 use mathlib.Core.List.{List, [], _∷_, _++_}
@@ -10,13 +10,16 @@ use borrow.Author.Tests.{le-ltb, ltb-false, eq-eqb, eqb-true, le-leb, leb-true}
 use native.Mathlib.Omega.{arith}
 use Rattle.std.specs.shelf.Lists.{All}
 use Rattle.std.proofs.shelf.Elements.{all-drop}
+use Rattle.std.proofs.shelf.Lists.{take-all}
 use Rattle.fault.specs.declared.FrameFault.the-variants.{Lifetime, Order}
 use Rattle.fault.proofs.Laws.{fails-not, not-fails}
 use Rattle.octets.specs.declared.checks.CheckOctets.{CheckOctets}
 use Rattle.octets.specs.Octets.{Octets, value, octets, part, field}
+use Rattle.octets.specs.Fields.{Front}
 use Rattle.octets.proofs.Numbers.{value-octets}
 use Rattle.frame.specs.Messages.{SnpEntry, entry-octets, entries-octets, tail-octets}
-use Rattle.frame.specs.Reading.{check-at, entry-at, entries-at, entries-of, entries-faults, tail-right}
+use Rattle.frame.specs.Reading.{check-at, entry-at, entries-at, entries-of, entries-faults, tail-right, field-lists}
+use Rattle.frame.specs.Meaning.{entries-in}
 use Rattle.frame.specs.Trip.{Entry-fits, Rises}
 use Rattle.frame.proofs.Heads.{No-faults, cell, run, octets-field, field-under, or-false, or-off}
 
@@ -70,13 +73,13 @@ pub length-tail : (es : List SnpEntry) → length es ≤ 15 → length (tail-oct
 length-tail [] l = omega arith
 length-tail (e ∷ es) l = omega (arith, length-entries (e ∷ es))
 
-five : (a b c d : Bool) → a ≡ true → b ≡ true → c ≡ true → d ≡ true → a && (b && (c && d)) ≡ true
-five a b c d p q r s = rw (p, q, r, s) refl
+five : (a b c d e : Bool) → a ≡ true → b ≡ true → c ≡ true → d ≡ true → e ≡ true → a && (b && (c && (d && e))) ≡ true
+five a b c d e p q r s t = rw (p, q, r, s, t) refl
 
 pub tail-fits : (es : List SnpEntry) → length es ≤ 15 → tail-right (tail-octets es) ≡ true
 tail-fits [] l = refl
 tail-fits (e ∷ es) l =
-    five _ _ _ _ (eq-eqb (16 * length (e ∷ es)) (length (entries-octets (e ∷ es))) (omega (arith, length-entries (e ∷ es))))
+    five _ _ _ _ _ refl (eq-eqb (16 * length (e ∷ es)) (length (entries-octets (e ∷ es))) (omega (arith, length-entries (e ∷ es))))
     (eq-eqb ((16 * length (e ∷ es)) % 16) 0 (omega arith)) (le-leb 16 (16 * length (e ∷ es)) (omega arith))
     (le-leb (16 * length (e ∷ es)) 240 (omega arith))
 
@@ -203,3 +206,52 @@ tail-counts (x ∷ n ∷ xs) f size p r b =
     let d : length (drop size f) ≡ length f - size = length-drop size f in
     let e : length (drop size f) ≡ suc (suc (length xs)) = ap (length {A = ℕ}) p in
     (omega (arith, w .most), λ z. omega (arith, w .whole, w .count))
+
+-- a right tail is one field that lists entries
+pub tail-lists : (t v rest : List ℕ) (code : ℕ) → Front t code v rest → field-lists code v rest ≡ true → (tail-right t ≡ true) × (v ≡ drop 2 t)
+tail-lists [] v rest code f h = absurd (omega (arith, f .rest-length))
+tail-lists (x ∷ []) v rest code f h = absurd (omega (arith, f .rest-length))
+tail-lists (x ∷ n ∷ xs) v rest code f h =
+    let a = and-on (eqb code 9) _ h in
+    let b = and-on (eqb (length rest) 0) _ (a .1) in
+    let c = and-on (eqb (length v % 16) 0) _ (b .1) in
+    let d = and-on (leb 16 (length v)) (leb (length v) 240) (c .1) in
+    let r0 : length rest ≡ 0 = eqb-true (length rest) 0 (b .0) in
+    let n16 : length v % 16 ≡ 0 = eqb-true (length v % 16) 0 (c .0) in
+    let low : 16 ≤ length v = leb-true 16 (length v) (d .0) in
+    let high : length v ≤ 240 = leb-true (length v) 240 (d .1) in
+    let vn : length v ≡ n = f .value-length in
+    let nx : n ≡ length xs = omega (arith, f .rest-length) in
+    (five _ _ _ _ _ (eq-eqb x 9 (sym (f .code-is) ∙ eqb-true code 9 (a .0))) (eq-eqb n (length xs) nx) (eq-eqb (n % 16) 0 (sym (ap (λ (k : ℕ). k % 16) vn) ∙ n16))
+    (le-leb 16 n (omega arith)) (le-leb n 240 (omega arith)),
+    f .value-is ∙ take-all n xs (omega arith))
+
+-- entries at an offset are those of what stands there
+entries-shift : (k : ℕ) (f g : List ℕ) (at j : ℕ) → drop at f ≡ g → entries-at k (at + j) f ≡ entries-at k j g
+entries-shift zero f g at j e = refl
+entries-shift (suc k) f g at j e =
+    let d : drop (at + j) f ≡ drop j g = sym (drop-drop j at f) ∙ ap (drop j) e in
+    let a : at + j + 16 ≡ at + (j + 16) = omega arith in
+    ap (λ (x : SnpEntry). x ∷ entries-at k (at + j + 16) f) (entry-from f (drop j g) (at + j) d ∙ sym (entry-from g (drop j g) j refl))
+    ∙ ap (λ (x : List SnpEntry). entry-at j g ∷ x) (ap (λ (n : ℕ). entries-at k n f) a ∙ entries-shift k f g at (j + 16) e)
+
+-- the octets behind a right tail's code and length hold the summary's entries
+pub tail-listed : (g f : List ℕ) (size : ℕ) → drop size f ≡ g → tail-right g ≡ true → entries-in (drop 2 g) ≡ entries-of size f
+tail-listed [] f size p r =
+    let n : getD f (size + 1) 0 ≡ 0 = octet-from f [] size 1 p in
+    sym (ap (λ (k : ℕ). entries-at (k / 16) (size + 2) f) n)
+tail-listed (x ∷ []) f size p r = absurd (no-tail x r)
+tail-listed (x ∷ n ∷ xs) f size p r =
+    let w = tailed x n xs r in
+    let q : drop (size + 2) f ≡ xs = sym (drop-drop 2 size f) ∙ ap (drop 2) p in
+    let g : getD f (size + 1) 0 ≡ n = octet-from f (x ∷ n ∷ xs) size 1 p in
+    let c : min (length xs / 16) 15 ≡ getD f (size + 1) 0 / 16 = omega (arith, w .count, w .most) in
+    let z : size + 2 + 0 ≡ size + 2 = omega arith in
+    ap (λ (k : ℕ). entries-at k 0 xs) c
+    ∙ sym (entries-shift (getD f (size + 1) 0 / 16) f xs (size + 2) 0 q)
+    ∙ ap (λ (a : ℕ). entries-at (getD f (size + 1) 0 / 16) a f) z
+
+-- the same of a tail and a part that were taken from the frame
+pub listed-of : (size : ℕ) (f t xs : List ℕ) → t ≡ drop size f → (tail-right t ≡ true) × (xs ≡ drop 2 t) →
+  (tail-right (drop size f) ≡ true) × (entries-in xs ≡ entries-of size f)
+listed-of size f t xs e h = (ap tail-right (sym e) ∙ h .0, ap entries-in (h .1) ∙ tail-listed t f size (sym e) (h .0))

@@ -19,11 +19,11 @@ use Rattle.frame.specs.Trip.{Entry-fits, Rises, Csnp-fits, Psnp-fits}
 use Rattle.frame.proofs.Heads.{No-faults, Heads, run, begins, octets-field, field-under, not-so}
 use Rattle.frame.proofs.EntryLists.{length-tail, tail-fits, tail-read, entries-none, entries-rise, entries-fit, tail-back, tail-counts, length-entries-at}
 
-made-psnp : (s s′ : ℕ) (es es′ : List SnpEntry) → s ≡ s′ → es ≡ es′ →
+pub made-psnp : (s s′ : ℕ) (es es′ : List SnpEntry) → s ≡ s′ → es ≡ es′ →
   _≡_ {A = PsnpPdu} (record { source = s; entries = es }) (record { source = s′; entries = es′ })
 made-psnp s s′ es es′ p q = rw (p, q) refl
 
-made-csnp : (s s′ a a′ b b′ : ℕ) (es es′ : List SnpEntry) → s ≡ s′ → a ≡ a′ → b ≡ b′ → es ≡ es′ →
+pub made-csnp : (s s′ a a′ b b′ : ℕ) (es es′ : List SnpEntry) → s ≡ s′ → a ≡ a′ → b ≡ b′ → es ≡ es′ →
   _≡_ {A = CsnpPdu} (record { source = s; start = a; end = b; entries = es }) (record { source = s′; start = a′; end = b′; entries = es′ })
 made-csnp s s′ a a′ b b′ es es′ p q r t = rw (p, q, r, t) refl
 

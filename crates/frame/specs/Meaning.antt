@@ -1,5 +1,5 @@
 -- What the code's messages say.
-use Prim.Native.Nat.{ℕ, _+_, _*_, _/_}
+use Prim.Native.Nat.{ℕ, _+_, _*_, _/_, min}
 use mathlib.Core.List.{List, [], _∷_, map}
 use lib.ListN.{length}
 use denote.Ref.{now}
@@ -21,9 +21,12 @@ lsp-said m =
 abbrev pub entry-said : Entry → SnpEntry
 entry-said e = record { lifetime = e .lifetime; id = value (e .id); number = e .number; check = e .check }
 
--- the entries in octets, 16 to each
+-- how many entries stand in octets, 16 to each: at most 15 count
+abbrev pub entry-count : List ℕ → ℕ
+entry-count octets = min (length octets / 16) 15
+
 abbrev pub entries-in : List ℕ → List SnpEntry
-entries-in octets = entries-at (length octets / 16) 0 octets
+entries-in octets = entries-at (entry-count octets) 0 octets
 
 abbrev pub csnp-said : CsnpValue → CsnpPdu
 csnp-said m =

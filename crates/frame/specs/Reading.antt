@@ -13,7 +13,7 @@ use Rattle.fault.specs.declared.FrameFault.{FrameFault}
 use Rattle.fault.specs.declared.FrameFault.the-variants.{Short, Fixed, Kind as Unknown-kind, Header, Length, Tail, Lifetime, Number, Range, Order, Check}
 use Rattle.fault.specs.Order.{fails, first-fault}
 use Rattle.octets.specs.declared.checks.CheckOctets.{CheckOctets}
-use Rattle.octets.specs.Octets.{part, field}
+use Rattle.octets.specs.Octets.{value, part, field}
 use Rattle.octets.specs.Checks.{right}
 use Rattle.octets.specs.Fields.{body-faults}
 use Rattle.frame.specs.declared.kind.Kind.{Kind}
@@ -95,11 +95,21 @@ entries-faults at low high (e ∷ es) =
     ∷ fails (ltb (e .id) low || ltb high (e .id)) (Order (at + 2))
     ∷ entries-faults (at + 16) (e .id + 1) high es
 
+-- the least identifier that may come next: the start, or one over the last
+abbrev pub floor : ℕ → Option (List ℕ) → ℕ
+floor start None = start
+floor start (Some last) = value last + 1
+
 -- nothing, or one field of code 09 with 1 to 15 entries
 abbrev pub tail-right : List ℕ → Bool
 tail-right [] = true
 tail-right (x ∷ []) = false
 tail-right (x ∷ n ∷ xs) = eqb x 9 && (eqb n (length xs) && (eqb (n % 16) 0 && (leb 16 n && leb n 240)))
+
+-- a field of this code and value is the last and holds 1 to 15 entries
+abbrev pub field-lists : ℕ → List ℕ → List ℕ → Bool
+field-lists code v rest =
+    eqb code 9 && (eqb (length rest) 0 && (eqb (length v % 16) 0 && (leb 16 (length v) && leb (length v) 240)))
 
 -- the entries of a summary whose header has this size
 abbrev pub entries-of : ℕ → List ℕ → List SnpEntry

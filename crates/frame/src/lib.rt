@@ -4,6 +4,7 @@ mod header;
 mod kind;
 mod lsp;
 mod message;
+mod snp;
 
 pub use kind::Kind;
 pub use message::Csnp;

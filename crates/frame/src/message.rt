@@ -25,11 +25,11 @@ pub struct Entry {
     pub check: CheckOctets,
 }
 
-// The entries of a summary, 16 octets each, as a part of the caller's frame with its place.
+// The entries of a summary, 16 octets each and at most 15, as a part of the caller's frame with its place.
 #[derive(Clone, Copy)]
 pub struct Entries<'a> {
     pub(crate) octets: &'a [u8],
-    pub(crate) place: usize,
+    pub(crate) place: u16,
 }
 
 #[derive(Clone, Copy)]
