@@ -33,7 +33,7 @@ octets-after (x ∷ xs) k a h =
     let up : (a * 256 + x) / 256 ≡ a = omega arith in
     let low : (a * 256 + x) % 256 ≡ x = omega arith in
     let ih : octets (length xs + suc k) (onward (a * 256 + x) xs) ≡ (octets k ((a * 256 + x) / 256) ++ (a * 256 + x) % 256 ∷ []) ++ xs =
-      octets-after xs (suc k) (a * 256 + x) (h .1)
+    octets-after xs (suc k) (a * 256 + x) (h .1)
     in
     ap (λ (n : ℕ). octets n (onward (a * 256 + x) xs)) e
     ∙ ih

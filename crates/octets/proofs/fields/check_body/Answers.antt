@@ -16,7 +16,7 @@ pub returns-then-body-gt100 : need.returns-then-body-gt100
 returns-then-body-gt100 c =
     let body = c .args .body .now in
     let at = c .args .at in
-    let v = checked-long at (c .from-place .result) body (c .from-place .ensures) (c .if-body-gt100 .taken) in
+    let v = checked-long at (c .from .result) body (c .from .ensures) (c .if-body-gt100 .taken) in
     record { value = v; whole = checked-whole at body _ v; fits = checked-fits at body _ v }
 
 pub returns-in-Break-value : need.returns-in-Break-value
