@@ -9,10 +9,9 @@ use native.Mathlib.Nat.{mul-add, add-mul, suc-mul, one-mul}
 use native.Mathlib.Omega.{arith}
 use Rattle.std.proofs.shelf.Lists.{length-append, length-take-le, length-drop, getD-at, getD-append-add, take-append-drop, drop-more}
 use Rattle.std.proofs.shelf.Elements.{all-getD}
-use Rattle.std.proofs.shelf.Tests.{and-parts, and-from, leb-true, le-leb, eqb-true, eqb-false, eq-eqb, ne-eqb, not-true, not-from-false}
+use Rattle.std.proofs.shelf.Tests.{and-parts, and-from, leb-true, le-leb, eqb-true, eqb-false, eq-eqb, ne-eqb, not-true}
 use Rattle.octets.specs.Octets.{Octets}
 use Rattle.octets.specs.Checks.{plain, weighted, c0-of, c1-of, sums-of, sums-then, written, made-octets, has-places, with-check, unchecked, check-octets, own-check, right, Computed-right, Right-computed}
-use Rattle.octets.specs.Worked.{Worked}
 use Rattle.octets.specs.declared.checks.CheckOctets.{CheckOctets}
 use Rattle.octets.specs.declared.checks.Sums.{Sums}
 
@@ -239,6 +238,3 @@ computed-right p part h = let a = places p part h in computed-at p part (a .0) (
 
 pub right-computed : Right-computed
 right-computed p part h r = let a = places p part (and-parts (has-places p part) _ r .0) in right-at p part (a .0) (a .1) h r
-
-pub worked : Worked
-worked = record { one = refl; two = refl; body = refl; zero = refl }

@@ -1,14 +1,13 @@
 -- The first broken field of a body.
 use Prim.Native.Nat.{ℕ, zero, suc, _+_, _≤_, _<_}
 use mathlib.Core.Path.{_≡_, refl, ap, sym, _∙_, subst}
-use mathlib.Core.Bool.{Bool, true, false, cond, _&&_}
+use mathlib.Core.Bool.{Bool, true, false, cond}
 use mathlib.Core.List.{List, [], _∷_, _++_}
 use native.Mathlib.Omega.{arith}
-use lib.Dec.{leb, ltb}
+use lib.Dec.{ltb}
 use lib.ListN.{length, getD, take, drop}
 use Rattle.std.proofs.shelf.Lists.{length-drop, length-append, length-take-le, take-append-drop, drop-at}
 use Rattle.std.proofs.shelf.Ways.{tells}
-use Rattle.std.proofs.shelf.Tests.{leb-true, le-leb}
 use Rattle.std.specs.declared.option.Option.{Option}
 use Rattle.std.specs.declared.option.Option.the-variants.{Some, None}
 use Rattle.std.specs.declared.result.Result.{Result}
@@ -16,8 +15,8 @@ use Rattle.std.specs.declared.result.Result.the-variants.{Ok, Err}
 use Rattle.fault.specs.declared.FrameFault.{FrameFault}
 use Rattle.fault.specs.declared.FrameFault.the-variants.{Field, Body}
 use Rattle.fault.specs.Refusals.{frame-place}
-use Rattle.fault.specs.Order.{fails, frame-rank, ranked, sooner}
-use Rattle.fault.proofs.Laws.{Between, Rising, foremost, none-of, rising-first, between-fails, ranked-self}
+use Rattle.fault.specs.Order.{frame-rank, ranked, sooner}
+use Rattle.fault.proofs.Laws.{Rising, foremost, none-of, rising-first, between-fails, ranked-self}
 use Rattle.octets.specs.Answers.{unless}
 use Rattle.octets.specs.Fields.{stands, after, Front, Whole, none, field, broken-within, broken-field, body-faults, body-fault}
 

@@ -1,11 +1,11 @@
 use borrow.Author.Needs.{needs}
-use mathlib.Core.Path.{_≡_, refl, sym, ap, _∙_}
-use mathlib.Core.Bool.{false, not}
+use mathlib.Core.Path.{_≡_, sym, ap, _∙_}
+use mathlib.Core.Bool.{not}
 use lib.Dec.{eqb}
 use lib.ListN.{getD}
 use native.Mathlib.Omega.{arith}
 use Rattle.std.proofs.shelf.Ways.{tells}
-use Rattle.octets.specs.Checks.{c0-of, c1-of, right}
+use Rattle.octets.specs.Checks.{right}
 use Rattle.octets.specs.declared.checks.Sums.{Sums}
 use Rattle.octets.proofs.Orders.{octets-from}
 use Rattle.octets.proofs.CheckLaws.{right-computed}
