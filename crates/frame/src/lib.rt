@@ -4,6 +4,7 @@ mod header;
 mod kind;
 mod lsp;
 mod message;
+mod reader;
 mod snp;
 
 pub use kind::Kind;
@@ -13,3 +14,4 @@ pub use message::Entry;
 pub use message::Lsp;
 pub use message::Message;
 pub use message::Psnp;
+pub use reader::FrameReader;

@@ -1,7 +1,6 @@
 -- The sums over octets, and why check octets that are computed are the only right ones.
 use Prim.Native.Nat.{ℕ, zero, suc, _+_, _*_, _-_, _/_, _%_, _≤_, _<_}
 use mathlib.Core.Path.{_≡_, refl, ap, sym, _∙_}
-use mathlib.Core.Logic.{_⊎_, inl, inr}
 use mathlib.Core.Bool.{Bool, true, false, cond, _&&_, not}
 use mathlib.Core.List.{List, [], _∷_, _++_, append-assoc}
 use lib.Dec.{eqb, leb}
@@ -10,10 +9,9 @@ use native.Mathlib.Nat.{mul-add, add-mul, suc-mul, one-mul}
 use native.Mathlib.Omega.{arith}
 use Rattle.std.proofs.shelf.Lists.{length-append, length-take-le, length-drop, getD-at, getD-append-add, take-append-drop, drop-more}
 use Rattle.std.proofs.shelf.Elements.{all-getD}
-use Rattle.std.proofs.shelf.Tests.{and-parts, and-from, and-left, and-right, lt-leb, leb-true, le-leb, eqb-true, eqb-false, eq-eqb, ne-eqb, not-true, not-from-false}
+use Rattle.std.proofs.shelf.Tests.{and-parts, and-from, leb-true, le-leb, eqb-true, eqb-false, eq-eqb, ne-eqb, not-true}
 use Rattle.octets.specs.Octets.{Octets}
 use Rattle.octets.specs.Checks.{plain, weighted, c0-of, c1-of, sums-of, sums-then, written, made-octets, has-places, with-check, unchecked, check-octets, own-check, right, Computed-right, Right-computed}
-use Rattle.octets.specs.Worked.{Worked}
 use Rattle.octets.specs.declared.checks.CheckOctets.{CheckOctets}
 use Rattle.octets.specs.declared.checks.Sums.{Sums}
 
@@ -31,7 +29,7 @@ weighted-append (x ∷ a) b =
 
 -- one octet more: what is left is weighted by one less
 pub weighted-step : (b : ℕ) (bs : List ℕ) (x y : ℕ) →
-  y + length (b ∷ bs) * x + weighted (b ∷ bs) ≡ (y + (x + b)) + length bs * (x + b) + weighted bs
+    y + length (b ∷ bs) * x + weighted (b ∷ bs) ≡ (y + (x + b)) + length bs * (x + b) + weighted bs
 weighted-step b bs x y = omega (arith, suc-mul (length bs) x, add-mul (length bs) 1 b, one-mul b, mul-add (length bs) x b)
 
 -- a sum reduced before it runs on is the same modulo 255
@@ -40,11 +38,14 @@ running c d n v =
     let e : n * c ≡ n * (c % 255 + 255 * (c / 255)) = ap (λ (z : ℕ). n * z) (omega arith) in
     omega arith
 
+pub times-reduced : (k c : ℕ) → (k % 255 * c) % 255 ≡ (k * c) % 255
+times-reduced k c = let e : k * c ≡ (k % 255 + 255 * (k / 255)) * c = ap (λ (z : ℕ). z * c) (omega arith) in omega arith
+
 pub sums-append : (a b : List ℕ) → sums-of (a ++ b) ≡ sums-then (sums-of a) b
 sums-append a b =
     let e : c0-of (a ++ b) ≡ (c0-of a + plain b) % 255 = omega (arith, plain-append a b) in
     let f : c1-of (a ++ b) ≡ (c1-of a + length b * c0-of a + weighted b) % 255 =
-      ap (λ (n : ℕ). n % 255) (weighted-append a b) ∙ sym (running (plain a) (weighted a) (length b) (weighted b))
+    ap (λ (n : ℕ). n % 255) (weighted-append a b) ∙ sym (running (plain a) (weighted a) (length b) (weighted b))
     in
     cc
 
@@ -53,7 +54,7 @@ pub sums-pieces : (a b d : List ℕ) → sums-then (sums-then (sums-then (sums-o
 sums-pieces a b d =
     let e : sums-then (sums-of []) a ≡ sums-of a = sym (sums-append [] a) in
     let f : sums-then (sums-of a) (b ++ d) ≡ sums-then (sums-then (sums-of a) b) d =
-      sym (sums-append a (b ++ d)) ∙ ap sums-of (sym (append-assoc a b d)) ∙ sums-append (a ++ b) d ∙ ap (λ (s : Sums). sums-then s d) (sums-append a b)
+    sym (sums-append a (b ++ d)) ∙ ap sums-of (sym (append-assoc a b d)) ∙ sums-append (a ++ b) d ∙ ap (λ (s : Sums). sums-then s d) (sums-append a b)
     in
     ap (λ (s : Sums). sums-then (sums-then s b) d) e ∙ sym f ∙ sym (sums-append a (b ++ d))
 
@@ -85,14 +86,20 @@ written-one x s l h e = go (s % 255) refl
 
 -- over numbers alone: c and d the two sums with 0 for both octets, k the octets from the second on
 module _ (h c d d′ v v′ x y k q₁ q₂ q₃ e₁ e₂ : ℕ) (hd : d + d′ ≡ 255) (hv : v + v′ ≡ 255) (hx : x + 255 * q₁ ≡ k * c + d′ + 255 * e₁)
-  (hy : y + 255 * q₂ ≡ d + v′ + 255 * e₂) (hq : v + 255 * q₃ ≡ (k + 1) * c) where
+    (hy : y + 255 * q₂ ≡ d + v′ + 255 * e₂) (hq : v + 255 * q₃ ≡ (k + 1) * c) where
   plain-sum : (c + 255 * h + (x + y)) % 255 ≡ 0
   plain-sum = omega arith
 
   weighted-sum : (d + 255 * h + ((k + 1) * x + k * y)) % 255 ≡ 0
   weighted-sum =
-      omega (arith, ap (λ (z : ℕ). (k + 1) * z) hx, ap (λ (z : ℕ). k * z) hy, ap (λ (z : ℕ). k * z) hq, ap (λ (z : ℕ). k * z) hd,
-        ap (λ (z : ℕ). k * z) hv)
+      omega (
+        arith,
+        ap (λ (z : ℕ). (k + 1) * z) hx,
+        ap (λ (z : ℕ). k * z) hy,
+        ap (λ (z : ℕ). k * z) hq,
+        ap (λ (z : ℕ). k * z) hd,
+        ap (λ (z : ℕ). k * z) hv,
+      )
 
 -- both sums are 0 with the octets x and y, so these are the computed ones
 module _ (h g c d x y k s t : ℕ) (low : d ≤ 254) (hs : c + 255 * h + (x + y) ≡ 255 * s) (ht : d + 255 * g + ((k + 1) * x + k * y) ≡ 255 * t) where
@@ -107,11 +114,6 @@ same-check a b e f =
     let made : ℕ → ℕ → CheckOctets = λ m n. record { x = m; y = n } in
     ap (λ (n : ℕ). made n (a .y)) e ∙ ap (made (b .x)) f
 
-pub same-sums : (a b : Sums) → a .c0 ≡ b .c0 → a .c1 ≡ b .c1 → a ≡ b
-same-sums a b e f =
-    let made : ℕ → ℕ → Sums = λ m n. record { c0 = m; c1 = n } in
-    ap (λ (n : ℕ). made n (a .c1)) e ∙ ap (made (b .c0)) f
-
 -- over the octets a before the two, and b after them
 module _ (a b : List ℕ) where
   plain-with : (x y : ℕ) → plain (a ++ x ∷ y ∷ b) ≡ plain (a ++ 0 ∷ 0 ∷ b) + (x + y)
@@ -120,22 +122,14 @@ module _ (a b : List ℕ) where
   weighted-with : (x y : ℕ) → weighted (a ++ x ∷ y ∷ b) ≡ weighted (a ++ 0 ∷ 0 ∷ b) + ((length b + 1 + 1) * x + (length b + 1) * y)
   weighted-with x y = omega (arith, weighted-append a (x ∷ y ∷ b), weighted-append a (0 ∷ 0 ∷ b))
 
--- how many octets stand behind counts modulo 255
-pub made-behind : (k c d : ℕ) → made-octets (k % 255) c d ≡ made-octets k c d
-made-behind k c d =
-    let e : k * c ≡ (k % 255 + 255 * (k / 255)) * c = ap (λ (z : ℕ). z * c) (omega arith) in
-    let x : (k % 255 * c + (255 - d)) % 255 ≡ (k * c + (255 - d)) % 255 = omega arith in
-    let y : ((k % 255 + 1) * c) % 255 ≡ ((k + 1) * c) % 255 = omega arith in
-    same-check (made-octets (k % 255) c d) (made-octets k c d) (ap written x) (ap (λ (n : ℕ). written ((d + (255 - n)) % 255)) y)
-
 -- computed octets, over sums p and w
 module _ (p w k : ℕ) where
   made-sums : (c : CheckOctets) → c ≡ made-octets k (p % 255) (w % 255) →
-    ((p + (c .x + c .y)) % 255 ≡ 0) × ((w + ((k + 1) * c .x + k * c .y)) % 255 ≡ 0)
+      ((p + (c .x + c .y)) % 255 ≡ 0) × ((w + ((k + 1) * c .x + k * c .y)) % 255 ≡ 0)
   made-sums o e = go (p % 255) (p / 255) (w % 255) (w / 255) (omega arith) (omega arith) (omega arith) e
     where
       go : (c h d g : ℕ) → p ≡ c + 255 * h → w ≡ d + 255 * g → d ≤ 254 → o ≡ made-octets k c d →
-        ((p + (o .x + o .y)) % 255 ≡ 0) × ((w + ((k + 1) * o .x + k * o .y)) % 255 ≡ 0)
+          ((p + (o .x + o .y)) % 255 ≡ 0) × ((w + ((k + 1) * o .x + k * o .y)) % 255 ≡ 0)
       go c h d g hp hw hd eo =
           let u : (e : ℕ) × (made-octets k c d .x + 255 * ((k * c + (255 - d)) / 255) ≡ (k * c + (255 - d)) + 255 * e) = written-is (k * c + (255 - d)) in
           let v : ℕ = ((k + 1) * c) % 255 in
@@ -144,16 +138,16 @@ module _ (p w k : ℕ) where
           let hd′ : d + (255 - d) ≡ 255 = omega arith in
           let hq : v + 255 * (((k + 1) * c) / 255) ≡ (k + 1) * c = omega arith in
           let s : (c + 255 * h + (made-octets k c d .x + made-octets k c d .y)) % 255 ≡ 0 =
-            plain-sum h c d (255 - d) v (255 - v) _ _ k _ _ _ _ _ hd′ hv (u .1) (z .1) hq
+          plain-sum h c d (255 - d) v (255 - v) _ _ k _ _ _ _ _ hd′ hv (u .1) (z .1) hq
           in
           let t : (d + 255 * g + ((k + 1) * made-octets k c d .x + k * made-octets k c d .y)) % 255 ≡ 0 =
-            weighted-sum g c d (255 - d) v (255 - v) _ _ k _ _ _ _ _ hd′ hv (u .1) (z .1) hq
+          weighted-sum g c d (255 - d) v (255 - v) _ _ k _ _ _ _ _ hd′ hv (u .1) (z .1) hq
           in
           (rw (eo, hp) s, rw (eo, hw) t)
 
   -- octets that make both sums 0 are the computed ones
   sums-made : (c : CheckOctets) → 0 < c .x → c .x < 256 → 0 < c .y → c .y < 256 → (p + (c .x + c .y)) % 255 ≡ 0 →
-    (w + ((k + 1) * c .x + k * c .y)) % 255 ≡ 0 → c ≡ made-octets k (p % 255) (w % 255)
+      (w + ((k + 1) * c .x + k * c .y)) % 255 ≡ 0 → c ≡ made-octets k (p % 255) (w % 255)
   sums-made o lx hx ly hy s t =
       let f : p % 255 + 255 * (p / 255) + (o .x + o .y) ≡ 255 * ((p + (o .x + o .y)) / 255) = omega arith in
       let g : w % 255 + 255 * (w / 255) + ((k + 1) * o .x + k * o .y) ≡ 255 * ((w + ((k + 1) * o .x + k * o .y)) / 255) = omega arith in
@@ -187,7 +181,7 @@ module _ (p : ℕ) (part : List ℕ) (low : 1 ≤ p) (high : p + 1 ≤ length pa
         let e : getD (with-check p c part) (p - 1) 0 ≡ c .x = getD-at (take (p - 1) part) (c .x) (c .y ∷ drop (p + 1) part) 0 (p - 1) before-length in
         let n : p ≡ length (take (p - 1) part) + 1 = omega (arith, before-length) in
         let f : getD (with-check p c part) p 0 ≡ c .y =
-          ap (λ (i : ℕ). getD (with-check p c part) i 0) n ∙ getD-append-add (take (p - 1) part) (c .x ∷ c .y ∷ drop (p + 1) part) 1 0
+        ap (λ (i : ℕ). getD (with-check p c part) i 0) n ∙ getD-append-add (take (p - 1) part) (c .x ∷ c .y ∷ drop (p + 1) part) 1 0
         in
         same-check (own-check p (with-check p c part)) c e f
 
@@ -197,7 +191,7 @@ module _ (p : ℕ) (part : List ℕ) (low : 1 ≤ p) (high : p + 1 ≤ length pa
       let e : drop (p - 1) part ≡ getD part (p - 1) 0 ∷ drop (p - 1 + 1) part = drop-more part (p - 1) 0 (omega arith) in
       let n : p - 1 + 1 ≡ p = omega arith in
       let f : drop (p - 1) part ≡ getD part (p - 1) 0 ∷ getD part p 0 ∷ drop (p + 1) part =
-        e ∙ ap (λ (i : ℕ). getD part (p - 1) 0 ∷ drop i part) n ∙ ap (λ (l : List ℕ). getD part (p - 1) 0 ∷ l) (drop-more part p 0 (omega arith))
+      e ∙ ap (λ (i : ℕ). getD part (p - 1) 0 ∷ drop i part) n ∙ ap (λ (l : List ℕ). getD part (p - 1) 0 ∷ l) (drop-more part p 0 (omega arith))
       in
       sym (ap (λ (l : List ℕ). take (p - 1) part ++ l) f) ∙ take-append-drop (p - 1) part
 
@@ -216,7 +210,7 @@ module _ (p : ℕ) (part : List ℕ) (low : 1 ≤ p) (high : p + 1 ≤ length pa
       let s = made-sums (plain (unchecked p part)) (weighted (unchecked p part)) (length part - p) o refl in
       let n = made-some (length part - p) (c0-of (unchecked p part)) (c1-of (unchecked p part)) in
       let here : has-places p (with-check p o part) ≡ true =
-        and-from _ _ (le-leb 1 p low) (le-leb (p + 1) (length (with-check p o part)) (omega (arith, length-with o)))
+      and-from _ _ (le-leb 1 p low) (le-leb (p + 1) (length (with-check p o part)) (omega (arith, length-with o)))
       in
       let ex : eqb (own-check p (with-check p o part) .x) 0 ≡ false = ap (λ (c : CheckOctets). eqb (c .x) 0) (own-with o) ∙ n .0 in
       let ey : eqb (own-check p (with-check p o part) .y) 0 ≡ false = ap (λ (c : CheckOctets). eqb (c .y) 0) (own-with o) ∙ n .1 in
@@ -239,17 +233,8 @@ places p part h =
     let a = and-parts (leb 1 p) (leb (p + 1) (length part)) h in
     (leb-true 1 p (a .0), leb-true (p + 1) (length part) (a .1))
 
-pub has-them : (p : ℕ) (part : List ℕ) → (p ≡ 0 → ⊥) → p < length part → has-places p part ≡ true
-has-them p part h l = and-from (leb 1 p) (leb (p + 1) (length part)) (le-leb 1 p (omega arith)) (le-leb (p + 1) (length part) (omega arith))
-
-pub has-none : (p : ℕ) (part : List ℕ) → (p ≡ 0) ⊎ ((p ≡ 0 → ⊥) × (length part ≤ p)) → has-places p part ≡ false
-has-none p part h = elim h [ inl e ↦ and-left (leb 1 p) _ (lt-leb 1 p (omega arith)) | inr g ↦ and-right (leb 1 p) _ (lt-leb (p + 1) (length part) (omega arith)) ]
-
 pub computed-right : Computed-right
 computed-right p part h = let a = places p part h in computed-at p part (a .0) (a .1)
 
 pub right-computed : Right-computed
 right-computed p part h r = let a = places p part (and-parts (has-places p part) _ r .0) in right-at p part (a .0) (a .1) h r
-
-pub worked : Worked
-worked = record { one = refl; two = refl; body = refl; zero = refl }

@@ -1,14 +1,13 @@
 -- The first broken field of a body.
 use Prim.Native.Nat.{ℕ, zero, suc, _+_, _≤_, _<_}
 use mathlib.Core.Path.{_≡_, refl, ap, sym, _∙_, subst}
-use mathlib.Core.Bool.{Bool, true, false, cond, _&&_}
+use mathlib.Core.Bool.{Bool, true, false, cond}
 use mathlib.Core.List.{List, [], _∷_, _++_}
 use native.Mathlib.Omega.{arith}
-use lib.Dec.{leb, ltb}
+use lib.Dec.{ltb}
 use lib.ListN.{length, getD, take, drop}
 use Rattle.std.proofs.shelf.Lists.{length-drop, length-append, length-take-le, take-append-drop, drop-at}
 use Rattle.std.proofs.shelf.Ways.{tells}
-use Rattle.std.proofs.shelf.Tests.{leb-true, le-leb}
 use Rattle.std.specs.declared.option.Option.{Option}
 use Rattle.std.specs.declared.option.Option.the-variants.{Some, None}
 use Rattle.std.specs.declared.result.Result.{Result}
@@ -16,9 +15,8 @@ use Rattle.std.specs.declared.result.Result.the-variants.{Ok, Err}
 use Rattle.fault.specs.declared.FrameFault.{FrameFault}
 use Rattle.fault.specs.declared.FrameFault.the-variants.{Field, Body}
 use Rattle.fault.specs.Refusals.{frame-place}
-use Rattle.fault.specs.Order.{fails, frame-rank, ranked, sooner}
-use Rattle.fault.proofs.Laws.{Between, Rising, foremost, none-of, rising-first, between-fails, ranked-self}
-use Rattle.fault.specs.Order.{unless}
+use Rattle.fault.specs.Order.{frame-rank, ranked, sooner, unless}
+use Rattle.fault.proofs.Laws.{Rising, foremost, none-of, rising-first, between-fails, ranked-self}
 use Rattle.octets.specs.Fields.{stands, after, Front, Whole, none, field, broken-within, broken-field, body-faults, body-fault}
 
 after-short : (xs : List ℕ) (n : ℕ) → length xs ≤ suc n → length (after xs) ≤ n
@@ -43,7 +41,7 @@ broken-more at [] h = cc
 broken-more at (x ∷ xs) h =
     rw h
     (enough (length xs) (length (after (x ∷ xs))) (at + (2 + getD (x ∷ xs) 1 0)) (after (x ∷ xs)) (after-short (x ∷ xs) (length xs) (omega arith))
-      (omega arith))
+    (omega arith))
 
 -- at a field that does not stand
 pub broken-here : (at : ℕ) (xs : List ℕ) → 0 < length xs → stands xs ≡ false → broken-field at xs ≡ Some (Field at)
@@ -57,7 +55,7 @@ broken-end at (x ∷ xs) l = absurd (omega arith)
 
 -- past a field that was read
 pub broken-past : (at : ℕ) (p : List ℕ) {code : ℕ} {value rest : List ℕ} → Front p code value rest →
-  broken-field (at + (2 + length value)) rest ≡ broken-field at p
+    broken-field (at + (2 + length value)) rest ≡ broken-field at p
 broken-past at p f = rw (f .rest-is, f .value-length) (sym (broken-more at p (f .whole)))
 
 two-on : (n code l : ℕ) (ys : List ℕ) → n ≡ 2 + l → drop n (code ∷ l ∷ ys) ≡ drop l ys
@@ -70,8 +68,8 @@ within-whole (suc n) at (x ∷ []) h = let z : _≡_ {A = ℕ} 0 1 = cc in absur
 within-whole (suc n) at (x ∷ l ∷ ys) h = go (stands (x ∷ l ∷ ys)) refl h (within-whole n (at + (2 + l)) (after (x ∷ l ∷ ys)))
   where
     go : (b : Bool) → stands (x ∷ l ∷ ys) ≡ b →
-      cond b (broken-within n (at + (2 + l)) (after (x ∷ l ∷ ys))) (Some (Field at)) ≡ None →
-      (broken-within n (at + (2 + l)) (after (x ∷ l ∷ ys)) ≡ None → Whole (after (x ∷ l ∷ ys))) → Whole (x ∷ l ∷ ys)
+        cond b (broken-within n (at + (2 + l)) (after (x ∷ l ∷ ys))) (Some (Field at)) ≡ None →
+        (broken-within n (at + (2 + l)) (after (x ∷ l ∷ ys)) ≡ None → Whole (after (x ∷ l ∷ ys))) → Whole (x ∷ l ∷ ys)
     go false e k ih = let z : _≡_ {A = ℕ} 0 1 = cc in absurd (omega arith)
     go true e k ih =
         let w : Whole (drop l ys) = subst Whole (two-on (2 + l) x l ys refl) (ih k) in
@@ -101,8 +99,8 @@ within-place (suc n) at (x ∷ xs) e h =
     go (stands (x ∷ xs)) h (within-place n (at + (2 + getD (x ∷ xs) 1 0)) (after (x ∷ xs)) e)
   where
     go : (b : Bool) → cond b (broken-within n (at + (2 + getD (x ∷ xs) 1 0)) (after (x ∷ xs))) (Some (Field at)) ≡ Some e →
-      (broken-within n (at + (2 + getD (x ∷ xs) 1 0)) (after (x ∷ xs)) ≡ Some e → (q : ℕ) × (e ≡ Field q) × (at + (2 + getD (x ∷ xs) 1 0) ≤ q)) →
-      (q : ℕ) × (e ≡ Field q) × (at ≤ q)
+        (broken-within n (at + (2 + getD (x ∷ xs) 1 0)) (after (x ∷ xs)) ≡ Some e → (q : ℕ) × (e ≡ Field q) × (at + (2 + getD (x ∷ xs) 1 0) ≤ q)) →
+        (q : ℕ) × (e ≡ Field q) × (at ≤ q)
     go false k ih = (at, cc, omega arith)
     go true k ih = let r = ih k in (r .0, r .1, omega arith)
 
@@ -167,5 +165,5 @@ checked-long at n body e l =
     ap (λ (k : ℕ). Err (Body k)) e ∙ sym (ap (λ (o : Option FrameFault). unless o tt) (body-long at body l))
 
 pub checked-short : (at : ℕ) (body : List ℕ) (o : Option FrameFault) → length body ≤ 100 → broken-field at body ≡ o →
-  _≡_ {A = Result (Unit {0}) FrameFault} (unless o tt) (unless (body-fault at body) tt)
+    _≡_ {A = Result (Unit {0}) FrameFault} (unless o tt) (unless (body-fault at body) tt)
 checked-short at body o l e = sym (ap (λ (r : Option FrameFault). unless r tt) (body-short at body l ∙ e))

@@ -5,7 +5,6 @@ use mathlib.Core.List.{List, [], _∷_, _++_, append-assoc, append-nil}
 use lib.ListN.{length, length-append}
 use native.Mathlib.Omega.{arith}
 use native.Mathlib.Nat.{mul-le-mul-right}
-use Rattle.std.specs.shelf.Lists.{All}
 use Rattle.std.proofs.shelf.Elements.{all-push}
 use Rattle.octets.specs.Octets.{Octets, onward, value, octets}
 
@@ -33,7 +32,7 @@ octets-after (x ∷ xs) k a h =
     let up : (a * 256 + x) / 256 ≡ a = omega arith in
     let low : (a * 256 + x) % 256 ≡ x = omega arith in
     let ih : octets (length xs + suc k) (onward (a * 256 + x) xs) ≡ (octets k ((a * 256 + x) / 256) ++ (a * 256 + x) % 256 ∷ []) ++ xs =
-      octets-after xs (suc k) (a * 256 + x) (h .1)
+    octets-after xs (suc k) (a * 256 + x) (h .1)
     in
     ap (λ (n : ℕ). octets n (onward (a * 256 + x) xs)) e
     ∙ ih

@@ -1,5 +1,5 @@
 -- The order of identifiers: the first octet that differs decides.
-use Prim.Native.Nat.{ℕ, _+_, _*_, _-_, _<_}
+use Prim.Native.Nat.{ℕ, _+_, _*_, _<_}
 use mathlib.Core.Path.{_≡_}
 use mathlib.Core.List.{List}
 use native.Mathlib.Omega.{arith}
@@ -19,8 +19,8 @@ module _ (a b : List ℕ) (f : (k : ℕ) → getD a k 0 < 256) (same : length a 
       let da = drop-more a i 0 h in
       let db = drop-more b i 0 (omega arith) in
       let k =
-        onward-lt (drop (i + 1) a) (drop (i + 1) b) (p * 256 + getD a i 0) (p * 256 + getD b i 0) (omega arith) (simp length-drop (omega arith))
-        (all-drop (λ (x : ℕ). x < 256) (i + 1) a (octets-from a f))
+      onward-lt (drop (i + 1) a) (drop (i + 1) b) (p * 256 + getD a i 0) (p * 256 + getD b i 0) (omega arith) (simp length-drop (omega arith))
+      (all-drop (λ (x : ℕ). x < 256) (i + 1) a (octets-from a f))
       in
       rw (ea, eb, da, db) k
 

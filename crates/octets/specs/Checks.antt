@@ -43,7 +43,7 @@ abbrev pub made-octets : ℕ → ℕ → ℕ → CheckOctets
 made-octets k c0 c1 =
     record {
       x = written ((k * c0 + (255 - c1)) % 255);
-      y = written ((c1 + (255 - ((k + 1) * c0) % 255)) % 255)
+      y = written ((c1 + (255 - ((k + 1) * c0) % 255)) % 255);
     }
 
 -- a part has the places p and p + 1

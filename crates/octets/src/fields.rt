@@ -41,11 +41,11 @@ pub fn check_body(body: &[u8], at: u16) -> Result<(), FrameFault>
     ensures whole { λ r. ⌜ (r ≡ Ok tt → Whole (now (body .entry))) ⌝ }
     ensures fits { λ r. ⌜ (Whole (now (body .entry)) → length (now (body .entry)) ≤ 100 → r ≡ Ok tt) ⌝ }
 {
-    let mut place = usize::from(at);
     if body.len() > 100 {
-        return Err(FrameFault::Body(place));
+        return Err(FrameFault::Body(usize::from(at)));
     }
     let mut rest = body;
+    let mut place = usize::from(at);
     while !rest.is_empty() {
         let (_, value, more) = read_field(rest, place)?;
         place += 2 + value.len();

@@ -1,11 +1,11 @@
 use mathlib.Core.Path.{_≡_, sym, ap, _∙_}
-use Prim.Native.Nat.{_≤_, _<_}
+use Prim.Native.Nat.{_<_}
 use native.Mathlib.Omega.{arith}
 use lib.ListN.{length}
 use Rattle.std.proofs.shelf.Results.{err-from-errBy}
 use Rattle.std.proofs.shelf.Tests.{eqb-true, eqb-false}
 use Rattle.std.specs.declared.option.Option.the-variants.{Some, None}
-use Rattle.std.specs.declared.result.Result.the-variants.{Ok, Err}
+use Rattle.std.specs.declared.result.Result.the-variants.{Err}
 use Rattle.fault.specs.declared.FrameFault.the-variants.{Field}
 use Rattle.fault.specs.Order.{unless}
 use Rattle.octets.specs.Fields.{body-fault}
@@ -16,7 +16,7 @@ pub returns-then-body-gt100 : need.returns-then-body-gt100
 returns-then-body-gt100 c =
     let body = c .args .body .now in
     let at = c .args .at in
-    let v = checked-long at (c .from-place .result) body (c .from-place .ensures) (c .if-body-gt100 .taken) in
+    let v = checked-long at (c .from .result) body (c .from .ensures) (c .if-body-gt100 .taken) in
     record { value = v; whole = checked-whole at body _ v; fits = checked-fits at body _ v }
 
 pub returns-in-Break-value : need.returns-in-Break-value

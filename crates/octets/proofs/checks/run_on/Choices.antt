@@ -2,7 +2,7 @@ use Prim.Native.Nat.{ℕ, _+_, _*_, _%_}
 use mathlib.Core.Path.{_≡_}
 use lib.ListN.{length, drop}
 use Rattle.octets.specs.Checks.{plain, weighted}
-use Rattle.octets.proofs.checks.Sums.over.Given as given
+use Rattle.octets.proofs.checks.run_on.Given as given
 
 -- x and y are the sums so far, not reduced
 abbrev pub Inv-loop-b : given.InvT-loop-b
@@ -13,4 +13,4 @@ Inv-loop-b l =
     × (l .c1 ≡ y % 255)
     × (l .entry .c0 + plain (l .part) ≡ x + plain (drop (l .b-index) (l .part)))
     × (l .entry .c1 + length (l .part) * l .entry .c0 + weighted (l .part)
-      ≡ y + length (drop (l .b-index) (l .part)) * x + weighted (drop (l .b-index) (l .part)))
+    ≡ y + length (drop (l .b-index) (l .part)) * x + weighted (drop (l .b-index) (l .part)))

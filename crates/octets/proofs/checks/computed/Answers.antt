@@ -1,17 +1,13 @@
-use mathlib.Core.Path.{_≡_, refl, ap, _∙_}
-use mathlib.Core.List.{List, [], _∷_}
+use mathlib.Core.Path.{_≡_, ap, _∙_}
+use mathlib.Core.List.{[], _∷_}
 use Prim.Native.Nat.{ℕ, _+_, _-_}
 use native.Mathlib.Nat.{sub-zero}
 use lib.ListN.{length, take, drop}
 use Rattle.std.proofs.shelf.Lists.{take-rest}
-use Rattle.std.specs.declared.option.Option.the-variants.{Some}
 use Rattle.octets.specs.Checks.{made-octets, sums-of, sums-then, unchecked}
 use Rattle.octets.specs.declared.checks.Sums.{Sums}
-use Rattle.octets.proofs.CheckLaws.{sums-pieces, has-them, has-none, computed-right, worked}
-use Rattle.octets.proofs.checks.check_octets.Needs as need
-
-pub returns-then-p-eq0 : need.returns-then-p-eq0
-returns-then-p-eq0 c = record { made = rw (has-none (c .args .p) (c .args .part .now) (c .then-p-eq0 .either)) refl; right = computed-right; worked = worked }
+use Rattle.octets.proofs.CheckLaws.{sums-pieces, computed-right}
+use Rattle.octets.proofs.checks.computed.Needs as need
 
 pub returns : need.returns
 returns c =
@@ -24,4 +20,4 @@ returns c =
     let all = c .over-all .ensures ∙ ap (sums-then (c .over .result)) b ∙ ap (λ (s : Sums). sums-then s (drop (p + 1) part)) two in
     let f : c .over-all .result ≡ sums-of (unchecked p part) = all ∙ sums-pieces (take (p - 1) part) (0 ∷ 0 ∷ []) (drop (p + 1) part) in
     let m = c .octets .ensures ∙ ap (λ (s : Sums). made-octets (length part - p) (s .c0) (s .c1)) f in
-    record { made = rw (has-them p part (c .if-p-eq0 .left) (c .if-part-p .left)) (ap Some m); right = computed-right; worked = worked }
+    record { made = m; right = rw m (computed-right p part (c .pre)); always = computed-right }

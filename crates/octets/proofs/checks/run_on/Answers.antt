@@ -1,12 +1,11 @@
-use borrow.Author.Needs.{needs}
 use mathlib.Core.Path.{_≡_, ap, _∙_}
 use Prim.Native.Nat.{ℕ, _+_, _*_, _%_}
 use native.Mathlib.Omega.{arith}
 use lib.ListN.{length, getD, drop}
 use Rattle.std.proofs.shelf.Lists.{drop-more, drop-all}
-use Rattle.octets.specs.Checks.{plain, weighted, sums-then}
-use Rattle.octets.proofs.CheckLaws.{weighted-step, running, same-sums}
-use Rattle.octets.proofs.checks.Sums.over.Needs as need
+use Rattle.octets.specs.Checks.{weighted}
+use Rattle.octets.proofs.CheckLaws.{weighted-step, running}
+use Rattle.octets.proofs.checks.run_on.Needs as need
 
 pub loop-b-holds : need.loop-b-holds
 loop-b-holds c = (c .from-c0 .result % 255, c .from-c1 .result % 255, omega arith, omega arith, omega arith, omega arith)
@@ -26,11 +25,9 @@ loop-b-again c =
 pub returns : need.returns
 returns c =
     let p = c .args .part .now in
-    let s = c .args .self in
+    let s = c .args .from in
     let d = drop-all (c .loop-b .b-index) p (omega arith) in
     let e = rw d at (c .loop-b .inv .4) in
     let f = rw d at (c .loop-b .inv .5) in
-    let x : c .loop-b .c0 ≡ (s .c0 + plain p) % 255 = omega arith in
     let n : length p * (c .from-c0 .result % 255) ≡ length p * (s .c0 % 255) = ap (λ (z : ℕ). length p * (z % 255)) (c .from-c0 .ensures) in
-    let y : c .loop-b .c1 ≡ (s .c1 + length p * s .c0 + weighted p) % 255 = omega (arith, running (s .c0) (s .c1) (length p) (weighted p)) in
-    same-sums (record { c0 = c .loop-b .c0; c1 = c .loop-b .c1 }) (sums-then s p) x y
+    record { plain = omega arith; weighted = omega (arith, running (s .c0) (s .c1) (length p) (weighted p)) }
