@@ -5,3 +5,4 @@ pub mod EntryLists
 pub mod Summaries
 pub mod Trips
 pub mod Answering
+pub mod Decoding

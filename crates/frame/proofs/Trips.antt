@@ -5,18 +5,19 @@ use mathlib.Core.List.{List, [], _∷_, _++_}
 use native.Mathlib.Omega.{arith}
 use Rattle.std.specs.declared.option.Option.{Option}
 use Rattle.std.specs.declared.option.Option.the-variants.{Some, None}
+use Rattle.std.specs.declared.result.Result.{Result}
 use Rattle.std.specs.declared.result.Result.the-variants.{Ok}
 use Rattle.fault.specs.declared.FrameFault.{FrameFault}
 use Rattle.fault.specs.Order.{frame-rank}
 use Rattle.fault.specs.Refusals.{frame-place}
-use Rattle.fault.proofs.Laws.{none-of, of-none}
+use Rattle.fault.proofs.Laws.{answers, none-of, of-none}
 use Rattle.octets.specs.Octets.{Octets}
 use Rattle.octets.proofs.Numbers.{value-octets}
 use Rattle.frame.specs.declared.kind.Kind.{Kind}
 use Rattle.frame.specs.declared.kind.Kind.the-variants.{Lsp, Csnp, Psnp}
 use Rattle.frame.specs.Messages.{LspPdu, CsnpPdu, PsnpPdu, Pdu, lsp, csnp, psnp, encode}
 use Rattle.frame.specs.Reading.{kind-of, header-faults, kind-faults, faults, refusal, said, decode}
-use Rattle.frame.specs.Trip.{Lsp-fits, Csnp-fits, Psnp-fits, Fits, Reads-back, Writes-back, Read-fits}
+use Rattle.frame.specs.Trip.{Reads, Lsp-fits, Csnp-fits, Psnp-fits, Fits, Reads-back, Writes-back, Read-fits}
 use Rattle.frame.proofs.Heads.{No-faults, Heads, answered-ok, answered-is, kind-is, header-none, heads-of}
 use Rattle.frame.proofs.Lsps.{Lays, lays, lsp-says, lsp-none, lsp-back, lsp-fitting}
 use Rattle.frame.proofs.Summaries.{psnp-heads, psnp-says, psnp-none, psnp-back, psnp-fitting, csnp-heads, csnp-says, csnp-none, csnp-back, csnp-fitting}
@@ -72,3 +73,10 @@ said-fits f Psnp o h z = psnp-fitting f o h z
 
 pub read-fits : Read-fits
 read-fits f m o h = let w = was-read f m h in subst Fits (w .3) (said-fits f (w .0) o (w .1) (w .2))
+
+pub reads : (f : List ℕ) (answer : Result Pdu FrameFault) → Octets f → decode f ≡ answer → Reads f answer
+reads f answer o e =
+    record {
+      is = e; soonest = answers frame-rank frame-place (faults f);
+      back = λ m h. writes-back f m o (e ∙ h); fits = λ m h. read-fits f m o (e ∙ h)
+    }

@@ -3,6 +3,9 @@ use Prim.Native.Nat.{ℕ, _+_, _*_, _/_, min}
 use mathlib.Core.List.{List, [], _∷_, map}
 use lib.ListN.{length}
 use denote.Ref.{now}
+use Rattle.std.specs.declared.result.Result.{Result}
+use Rattle.std.specs.declared.result.Result.the-variants.{Ok, Err}
+use Rattle.fault.specs.declared.FrameFault.{FrameFault}
 use Rattle.octets.specs.Octets.{value}
 use Rattle.frame.specs.declared.message.Lsp.{Lsp as LspValue}
 use Rattle.frame.specs.declared.message.Entry.{Entry}
@@ -39,3 +42,7 @@ abbrev pub message-said : Message → Pdu
 message-said (Lsp m) = lsp (lsp-said m)
 message-said (Csnp m) = csnp (csnp-said m)
 message-said (Psnp m) = psnp (psnp-said m)
+
+abbrev pub meant : Result Message FrameFault → Result Pdu FrameFault
+meant (Ok m) = Ok (message-said m)
+meant (Err e) = Err e

@@ -6,12 +6,16 @@ use mathlib.Core.List.{List, [], _∷_}
 use lib.ListN.{length}
 use Rattle.std.specs.shelf.Lists.{All}
 use Rattle.std.specs.declared.option.Option.the-variants.{None}
+use Rattle.std.specs.declared.result.Result.{Result}
 use Rattle.std.specs.declared.result.Result.the-variants.{Ok}
+use Rattle.fault.specs.declared.FrameFault.{FrameFault}
+use Rattle.fault.specs.Order.{frame-rank, Answers}
+use Rattle.fault.specs.Refusals.{frame-place}
 use Rattle.octets.specs.Octets.{Octets}
 use Rattle.octets.specs.Checks.{right}
 use Rattle.octets.specs.Fields.{Whole}
 use Rattle.frame.specs.Messages.{LspPdu, SnpEntry, CsnpPdu, PsnpPdu, Pdu, lsp, csnp, psnp, covered-part, encode}
-use Rattle.frame.specs.Reading.{last-id, decode}
+use Rattle.frame.specs.Reading.{last-id, faults, refusal, decode}
 
 -- an LSP that a frame can say: what is refused neither in reading nor in writing
 pub record Lsp-fits (m : LspPdu) : Type 0 where
@@ -64,3 +68,12 @@ Writes-back = (f : List ℕ) (m : Pdu) → Octets f → decode f ≡ Ok m → en
 -- what was read can be said
 abbrev pub Read-fits : Type 0
 Read-fits = (f : List ℕ) (m : Pdu) → Octets f → decode f ≡ Ok m → Fits m
+
+-- what reading the octets f answers
+pub record Reads (f : List ℕ) (answer : Result Pdu FrameFault) : Type 0 where
+  pub is : decode f ≡ answer
+  -- of the faults that f has, the one of least rank and then of least place is answered; none only where there is none
+  pub soonest : Answers frame-rank frame-place (faults f) (refusal f)
+  -- what was read is written octet for octet
+  pub back : (m : Pdu) → answer ≡ Ok m → encode m ≡ f
+  pub fits : (m : Pdu) → answer ≡ Ok m → Fits m

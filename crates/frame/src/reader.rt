@@ -1,15 +1,8 @@
 // The reader of frames.
 ghost use mathlib.Core.Path.{_≡_};
-ghost use Prim.Native.Nat.{_+_, _*_, _<_, _≤_};
-ghost use lib.ListN.{length, drop};
-ghost use Rattle.std.specs.declared.result.Result.the-variants.{Ok, Err};
-ghost use Rattle.std.specs.Results.{Cases as ByOk};
-ghost use Rattle.fault.specs.Order.{Answers, frame-rank};
-ghost use Rattle.fault.specs.Refusals.{frame-place};
-ghost use Rattle.octets.specs.Octets.{part};
-ghost use Rattle.frame.specs.Messages.{encode};
-ghost use Rattle.frame.specs.Reading.{header-answer, faults, refusal, decode};
-ghost use Rattle.frame.specs.Meaning.{message-said};
+ghost use Rattle.frame.specs.Reading.{header-answer, decode};
+ghost use Rattle.frame.specs.Meaning.{meant};
+ghost use Rattle.frame.specs.Trip.{Reads};
 use crate::header::read_header;
 use crate::kind::Kind;
 use crate::lsp::read_lsp;
@@ -38,14 +31,28 @@ impl<'a> FrameReader<'a> {
         read_header(self.frame)
     }
 
-    // What the frame says, or the fault that is to be answered.
+    // What the frame says, or the fault that is to be answered. What was read is written again octet for octet.
     pub fn message(&self) -> Result<Message<'a>, FrameFault>
-        ensures reads { λ r. ⌜ ByOk r (λ m. decode (now (now (self .entry) .frame)) ≡ Ok (message-said m)) (λ e. decode (now (now (self .entry) .frame)) ≡ Err e) ⌝ }
+        ensures { λ r. ⌜ Reads (now (now (self .entry) .frame)) (meant r) ⌝ }
     {
-        match self.kind()? {
-            Kind::Lsp => Ok(Message::Lsp(read_lsp(self.frame)?)),
-            Kind::Csnp => Ok(Message::Csnp(read_csnp(self.frame)?)),
-            Kind::Psnp => Ok(Message::Psnp(read_psnp(self.frame)?)),
-        }
+        read_message(self.frame)
+    }
+}
+
+fn read_message(f: &[u8]) -> Result<Message<'_>, FrameFault>
+    ensures { λ r. ⌜ Reads (now (f .entry)) (meant r) ⌝ }
+{
+    read_by_kind(f)
+}
+
+// The header's fault, or what the kind's reader answers.
+fn read_by_kind(f: &[u8]) -> Result<Message<'_>, FrameFault>
+    ensures { λ r. ⌜ decode (now (f .entry)) ≡ meant r ⌝ }
+{
+    let kind = read_header(f)?;
+    match kind {
+        Kind::Lsp => Ok(Message::Lsp(read_lsp(f)?)),
+        Kind::Csnp => Ok(Message::Csnp(read_csnp(f)?)),
+        Kind::Psnp => Ok(Message::Psnp(read_psnp(f)?)),
     }
 }
