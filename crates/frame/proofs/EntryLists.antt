@@ -255,3 +255,6 @@ tail-listed (x ∷ n ∷ xs) f size p r =
 pub listed-of : (size : ℕ) (f t xs : List ℕ) → t ≡ drop size f → (tail-right t ≡ true) × (xs ≡ drop 2 t) →
   (tail-right (drop size f) ≡ true) × (entries-in xs ≡ entries-of size f)
 listed-of size f t xs e h = (ap tail-right (sym e) ∙ h .0, ap entries-in (h .1) ∙ tail-listed t f size (sym e) (h .0))
+
+pub own-part : (size : ℕ) (f t xs : List ℕ) → t ≡ drop size f → xs ≡ drop 2 t → xs ≡ drop (size + 2) f
+own-part size f t xs e h = h ∙ ap (drop 2) e ∙ drop-drop 2 size f

@@ -1,7 +1,8 @@
 -- What the code's messages say.
 use Prim.Native.Nat.{ℕ, _+_, _*_, _/_, min}
-use mathlib.Core.List.{List, [], _∷_, map}
-use lib.ListN.{length}
+use mathlib.Core.Path.{_≡_}
+use mathlib.Core.List.{List, [], _∷_}
+use lib.ListN.{length, drop}
 use denote.Ref.{now}
 use Rattle.std.specs.declared.result.Result.{Result}
 use Rattle.std.specs.declared.result.Result.the-variants.{Ok, Err}
@@ -46,3 +47,15 @@ message-said (Psnp m) = psnp (psnp-said m)
 abbrev pub meant : Result Message FrameFault → Result Pdu FrameFault
 meant (Ok m) = Ok (message-said m)
 meant (Err e) = Err e
+
+-- the parts that a message hands out are the frame's own octets, each with its place
+abbrev pub Own-parts : List ℕ → Message → Type 0
+Own-parts f (Lsp m) = now (m .body) ≡ drop 27 f
+Own-parts f (Csnp m) = (now (m .entries .octets) ≡ drop 35 f) × (m .entries .place ≡ 35)
+Own-parts f (Psnp m) = (now (m .entries .octets) ≡ drop 19 f) × (m .entries .place ≡ 19)
+
+-- where an LSP's body and a summary's entries begin
+abbrev pub content-place : Message → ℕ
+content-place (Lsp m) = 27
+content-place (Csnp m) = 35
+content-place (Psnp m) = 19

@@ -1,7 +1,8 @@
 // The reader of frames.
 ghost use mathlib.Core.Path.{_≡_};
+ghost use Rattle.std.specs.Vec.{made};
 ghost use Rattle.frame.specs.Reading.{header-answer, decode};
-ghost use Rattle.frame.specs.Meaning.{meant};
+ghost use Rattle.frame.specs.Meaning.{meant, Own-parts};
 ghost use Rattle.frame.specs.Trip.{Reads};
 use crate::header::read_header;
 use crate::kind::Kind;
@@ -33,21 +34,24 @@ impl<'a> FrameReader<'a> {
 
     // What the frame says, or the fault that is to be answered. What was read is written again octet for octet.
     pub fn message(&self) -> Result<Message<'a>, FrameFault>
-        ensures { λ r. ⌜ Reads (now (now (self .entry) .frame)) (meant r) ⌝ }
+        ensures reads { λ r. ⌜ Reads (now (now (self .entry) .frame)) (meant r) ⌝ }
+        ensures parts { λ r. ⌜ made r (λ m. Own-parts (now (now (self .entry) .frame)) m) ⌝ }
     {
         read_message(self.frame)
     }
 }
 
 fn read_message(f: &[u8]) -> Result<Message<'_>, FrameFault>
-    ensures { λ r. ⌜ Reads (now (f .entry)) (meant r) ⌝ }
+    ensures reads { λ r. ⌜ Reads (now (f .entry)) (meant r) ⌝ }
+    ensures parts { λ r. ⌜ made r (λ m. Own-parts (now (f .entry)) m) ⌝ }
 {
     read_by_kind(f)
 }
 
 // The header's fault, or what the kind's reader answers.
 fn read_by_kind(f: &[u8]) -> Result<Message<'_>, FrameFault>
-    ensures { λ r. ⌜ decode (now (f .entry)) ≡ meant r ⌝ }
+    ensures reads { λ r. ⌜ decode (now (f .entry)) ≡ meant r ⌝ }
+    ensures parts { λ r. ⌜ made r (λ m. Own-parts (now (f .entry)) m) ⌝ }
 {
     let kind = read_header(f)?;
     match kind {

@@ -10,7 +10,8 @@ ghost use Rattle.std.specs.Results.{Cases as ByOk};
 ghost use Rattle.fault.specs.declared.FrameFault.the-variants.{Tail};
 ghost use Rattle.fault.specs.Order.{first-fault, unless};
 ghost use Rattle.octets.specs.Octets.{value};
-ghost use Rattle.frame.specs.Meaning.{entry-count, entries-in, csnp-said, psnp-said};
+ghost use Rattle.frame.specs.declared.message.Message.the-variants.{Csnp as SaysCsnp, Psnp as SaysPsnp};
+ghost use Rattle.frame.specs.Meaning.{entry-count, entries-in, csnp-said, psnp-said, Own-parts};
 ghost use Rattle.frame.specs.Reading.{tail-right, field-lists, floor, entries-faults, csnp-faults, psnp-faults, csnp-in, psnp-in};
 use crate::cells::id_at;
 use crate::cells::source_at;
@@ -99,7 +100,7 @@ pub(crate) fn entry_count(octets: &[u8]) -> usize
 // What the CSNP says, or its first fault.
 pub(crate) fn read_csnp(f: &[u8]) -> Result<Csnp<'_>, FrameFault>
     requires { ⌜ 33 ≤ length (now f) ⌝ }
-    ensures { λ r. ⌜ ByOk r (λ m. (first-fault (csnp-faults (now (f .entry))) ≡ None) × (csnp-said m ≡ csnp-in (now (f .entry)))) (λ e. first-fault (csnp-faults (now (f .entry))) ≡ Some e) ⌝ }
+    ensures { λ r. ⌜ ByOk r (λ m. (first-fault (csnp-faults (now (f .entry))) ≡ None) × (csnp-said m ≡ csnp-in (now (f .entry))) × Own-parts (now (f .entry)) (SaysCsnp m)) (λ e. first-fault (csnp-faults (now (f .entry))) ≡ Some e) ⌝ }
 {
     let octets = read_tail(from(f, 33), 33)?;
     let start = id_at(f, 17);
@@ -120,7 +121,7 @@ pub(crate) fn read_csnp(f: &[u8]) -> Result<Csnp<'_>, FrameFault>
 // What the PSNP says, or its first fault. Its entries may be anything from eight 00 to eight FF.
 pub(crate) fn read_psnp(f: &[u8]) -> Result<Psnp<'_>, FrameFault>
     requires { ⌜ 17 ≤ length (now f) ⌝ }
-    ensures { λ r. ⌜ ByOk r (λ m. (first-fault (psnp-faults (now (f .entry))) ≡ None) × (psnp-said m ≡ psnp-in (now (f .entry)))) (λ e. first-fault (psnp-faults (now (f .entry))) ≡ Some e) ⌝ }
+    ensures { λ r. ⌜ ByOk r (λ m. (first-fault (psnp-faults (now (f .entry))) ≡ None) × (psnp-said m ≡ psnp-in (now (f .entry))) × Own-parts (now (f .entry)) (SaysPsnp m)) (λ e. first-fault (psnp-faults (now (f .entry))) ≡ Some e) ⌝ }
 {
     let octets = read_tail(from(f, 17), 17)?;
     check_entries(octets, 19, [0; 8], [0xff; 8])?;

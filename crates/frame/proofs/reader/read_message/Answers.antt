@@ -4,4 +4,4 @@ use Rattle.frame.proofs.Trips.{reads}
 use Rattle.frame.proofs.reader.read_message.Needs as need
 
 pub returns : need.returns
-returns c = reads (c .args .f .now) _ (octets-from (c .args .f .now) (λ k. omega (arith, c .typed .f k))) (c .read-by-kind .ensures)
+returns c = record { reads = reads (c .args .f .now) _ (octets-from (c .args .f .now) (λ k. omega (arith, c .typed .f k))) (c .read-by-kind .ensures .reads); parts = c .read-by-kind .ensures .parts }

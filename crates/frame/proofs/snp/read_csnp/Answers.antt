@@ -6,7 +6,7 @@ use Rattle.fault.proofs.Laws.{unless-err, unless-ok}
 use Rattle.octets.specs.Octets.{value, field}
 use Rattle.frame.specs.Reading.{tail-right}
 use Rattle.frame.proofs.Answering.{csnp-tail-fault, csnp-range-fault, csnp-entries, same-first}
-use Rattle.frame.proofs.EntryLists.{listed-of}
+use Rattle.frame.proofs.EntryLists.{listed-of, own-part}
 use Rattle.frame.proofs.Summaries.{made-csnp}
 use Rattle.frame.proofs.snp.read_csnp.Needs as need
 
@@ -46,4 +46,5 @@ returns c =
     let le = ltb-false _ _ (sym (c .if-is-before .ensures tt)) in
     (csnp-entries f (l .0) (omega (arith, a, b, le))
     ∙ (sym (same-first 35 _ _ _ _ _ _ a b (l .1)) ∙ unless-ok _ tt tt (sym (c .in-Continue-check-entries .ensures tt))),
-    made-csnp _ _ _ _ _ _ _ _ (ap value (c .source-at .ensures)) a b (l .1))
+    made-csnp _ _ _ _ _ _ _ _ (ap value (c .source-at .ensures)) a b (l .1),
+    (own-part 33 f _ _ (c .from .ensures) (c .in-Continue-octets .ensures tt .1), refl))

@@ -4,7 +4,7 @@ use Rattle.fault.proofs.Laws.{unless-err, unless-ok}
 use Rattle.octets.specs.Octets.{value}
 use Rattle.frame.specs.Reading.{tail-right}
 use Rattle.frame.proofs.Answering.{psnp-tail-fault, psnp-entries, same-first}
-use Rattle.frame.proofs.EntryLists.{listed-of}
+use Rattle.frame.proofs.EntryLists.{listed-of, own-part}
 use Rattle.frame.proofs.Summaries.{made-psnp}
 use Rattle.frame.proofs.snp.read_psnp.Needs as need
 
@@ -29,4 +29,5 @@ returns c =
     let l = listed-of 17 f (c .from .result .now) (c .in-Continue-octets .octets .now) (c .from .ensures) (c .in-Continue-octets .ensures tt) in
     (psnp-entries f (l .0)
     ∙ (sym (same-first 19 _ _ _ _ _ _ refl refl (l .1)) ∙ unless-ok _ tt tt (sym (c .in-Continue-check-entries .ensures tt))),
-    made-psnp _ _ _ _ (ap value (c .source-at .ensures)) (l .1))
+    made-psnp _ _ _ _ (ap value (c .source-at .ensures)) (l .1),
+    (own-part 17 f _ _ (c .from .ensures) (c .in-Continue-octets .ensures tt .1), refl))
