@@ -53,9 +53,3 @@ abbrev pub Own-parts : List ℕ → Message → Type 0
 Own-parts f (Lsp m) = now (m .body) ≡ drop 27 f
 Own-parts f (Csnp m) = (now (m .entries .octets) ≡ drop 35 f) × (m .entries .place ≡ 35)
 Own-parts f (Psnp m) = (now (m .entries .octets) ≡ drop 19 f) × (m .entries .place ≡ 19)
-
--- where an LSP's body and a summary's entries begin
-abbrev pub content-place : Message → ℕ
-content-place (Lsp m) = 27
-content-place (Csnp m) = 35
-content-place (Psnp m) = 19

@@ -3,7 +3,7 @@ use Prim.Native.Nat.{ℕ, _+_, _≤_, _<_, _^_}
 use mathlib.Core.Path.{_≡_}
 use mathlib.Core.Bool.{true}
 use mathlib.Core.List.{List, [], _∷_}
-use lib.ListN.{length}
+use lib.ListN.{length, drop}
 use Rattle.std.specs.shelf.Lists.{All}
 use Rattle.std.specs.declared.option.Option.the-variants.{None}
 use Rattle.std.specs.declared.result.Result.{Result}
@@ -77,3 +77,13 @@ pub record Reads (f : List ℕ) (answer : Result Pdu FrameFault) : Type 0 where
   -- what was read is written octet for octet
   pub back : (m : Pdu) → answer ≡ Ok m → encode m ≡ f
   pub fits : (m : Pdu) → answer ≡ Ok m → Fits m
+
+-- where an LSP's body and a summary's entries begin
+abbrev pub content-place : Pdu → ℕ
+content-place (lsp m) = 27
+content-place (csnp m) = 35
+content-place (psnp m) = 19
+
+-- the frame f says something, and these octets at this place are its body or its entries
+abbrev pub Holds : List ℕ → ℕ → List ℕ → Type 0
+Holds f place octets = (m : Pdu) × (decode f ≡ Ok m) × (place ≡ content-place m) × (octets ≡ drop place f)

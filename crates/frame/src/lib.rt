@@ -1,5 +1,6 @@
 // Frames: LSP, CSNP and PSNP read from octets and written to them.
 mod cells;
+mod entries;
 mod header;
 mod kind;
 mod lsp;

@@ -1,9 +1,11 @@
 // The reader of frames.
 ghost use mathlib.Core.Path.{_≡_};
+ghost use Rattle.std.specs.declared.result.Result.the-variants.{Err};
+ghost use Rattle.std.specs.Results.{Cases as ByOk};
 ghost use Rattle.std.specs.Vec.{made};
 ghost use Rattle.frame.specs.Reading.{header-answer, decode};
 ghost use Rattle.frame.specs.Meaning.{meant, Own-parts};
-ghost use Rattle.frame.specs.Trip.{Reads};
+ghost use Rattle.frame.specs.Trip.{Reads, Holds};
 use crate::header::read_header;
 use crate::kind::Kind;
 use crate::lsp::read_lsp;
@@ -38,6 +40,17 @@ impl<'a> FrameReader<'a> {
         ensures parts { λ r. ⌜ made r (λ m. Own-parts (now (now (self .entry) .frame)) m) ⌝ }
     {
         read_message(self.frame)
+    }
+
+    // An LSP's body or a summary's entries, as a part of the frame with its place.
+    pub fn content(&self) -> Result<(usize, &'a [u8]), FrameFault>
+        ensures { λ r. ⌜ ByOk r (λ x. Holds (now (now (self .entry) .frame)) (x .0) (now (x .1))) (λ e. decode (now (now (self .entry) .frame)) ≡ Err e) ⌝ }
+    {
+        match self.message()? {
+            Message::Lsp(m) => Ok((27, m.body)),
+            Message::Csnp(m) => Ok((35, m.entries.octets)),
+            Message::Psnp(m) => Ok((19, m.entries.octets)),
+        }
     }
 }
 
