@@ -139,7 +139,7 @@ body-short at body h =
     go None = refl
     go (Some x) = refl
 
-unless-ok : {A F : Type 0} (o : Option F) (x y : A) → unless o x ≡ Ok y → o ≡ None
+pub unless-ok : {A F : Type 0} (o : Option F) (x y : A) → unless o x ≡ Ok y → o ≡ None
 unless-ok None x y h = refl
 unless-ok (Some e) x y h = let z : _≡_ {A = ℕ} 0 1 = cc in absurd (omega arith)
 
