@@ -120,7 +120,7 @@ module _ {F : Type 0} (rank place : F → ℕ) where
   between-fails lo x false h = h
 
 pub foremost-append : {F : Type 0} (rank place : F → ℕ) (rs ss : List (Option F)) →
-  foremost rank place (rs ++ ss) ≡ orOther (foremost rank place rs) (foremost rank place ss)
+    foremost rank place (rs ++ ss) ≡ orOther (foremost rank place rs) (foremost rank place ss)
 foremost-append rank place [] ss = refl
 foremost-append rank place (None ∷ rs) ss = foremost-append rank place rs ss
 foremost-append rank place (Some a ∷ rs) ss = refl

@@ -38,9 +38,9 @@ may-fail : (lo x : FrameFault) (c : Bool) → before frame-rank frame-place lo x
 may-fail lo x c h = between-fails frame-rank frame-place lo x c h
 
 fixed-between : (n : ℕ) (a b c d e g : Bool) →
-  In-between (Short n)
-  (cond a (cond b (cond c (cond d (cond e (cond g None (Some (Fixed 7))) (Some (Fixed 6))) (Some (Fixed 5))) (Some (Fixed 3))) (Some (Fixed 2))) (Some (Fixed 0)))
-  (Fixed 8)
+    In-between (Short n)
+    (cond a (cond b (cond c (cond d (cond e (cond g None (Some (Fixed 7))) (Some (Fixed 6))) (Some (Fixed 5))) (Some (Fixed 3))) (Some (Fixed 2))) (Some (Fixed 0)))
+    (Fixed 8)
 fixed-between n false b c d e g = (refl, refl)
 fixed-between n true false c d e g = (refl, refl)
 fixed-between n true true false d e g = (refl, refl)
@@ -50,12 +50,23 @@ fixed-between n true true true true true false = (refl, refl)
 fixed-between n true true true true true true = refl
 
 header-rising : (f : List ℕ) (rest : List (Option FrameFault)) → Rise Length rest → Rise (Short (length f)) (header-faults f ++ rest)
-header-rising f rest h =
-    (Short (length f), may-fail (Short (length f)) (Short (length f)) _ (ranked-self 10 (length f)),
-    (Fixed 8, fixed-between (length f) (eqb (getD f 0 0) 131) (eqb (getD f 2 0) 1) (eqb (getD f 3 0) 0) (eqb (getD f 5 0) 1) (eqb (getD f 6 0) 0) (eqb (getD f 7 0) 0),
-    (Unknown-kind, may-fail (Fixed 8) Unknown-kind _ refl,
-    (Header, may-fail Unknown-kind Header _ refl,
-    (Length, may-fail Header Length _ refl, h)))))
+header-rising f rest h = (
+  Short (length f),
+  may-fail (Short (length f)) (Short (length f)) _ (ranked-self 10 (length f)),
+  (
+    Fixed 8,
+    fixed-between (length f) (eqb (getD f 0 0) 131) (eqb (getD f 2 0) 1) (eqb (getD f 3 0) 0) (eqb (getD f 5 0) 1) (eqb (getD f 6 0) 0) (eqb (getD f 7 0) 0),
+    (
+      Unknown-kind,
+      may-fail (Fixed 8) Unknown-kind _ refl,
+      (
+        Header,
+        may-fail Unknown-kind Header _ refl,
+        (Length, may-fail Header Length _ refl, h),
+      ),
+    ),
+  ),
+)
 
 broken-between : (at : ℕ) (body : List ℕ) (r : Option FrameFault) → broken-field at body ≡ r → In-between (Body at) r (Lifetime 10)
 broken-between at body None e = refl
@@ -64,27 +75,45 @@ broken-between at body (Some x) e =
     subst (λ (y : FrameFault). In-between (Body at) (Some y) (Lifetime 10)) (sym (b .1)) (le-leb at (b .0) (b .2), refl)
 
 lsp-rising : (f : List ℕ) → Rise Length (lsp-faults f)
-lsp-rising f =
-    (Body 27, may-fail Length (Body 27) _ refl,
-    (Lifetime 10, broken-between 27 (drop 27 f) _ refl,
-    (Lifetime 10, may-fail (Lifetime 10) (Lifetime 10) _ refl,
-    (Number, may-fail (Lifetime 10) Number _ refl,
-    (Check, may-fail Number Check _ refl, tt)))))
+lsp-rising f = (
+  Body 27,
+  may-fail Length (Body 27) _ refl,
+  (
+    Lifetime 10,
+    broken-between 27 (drop 27 f) _ refl,
+    (
+      Lifetime 10,
+      may-fail (Lifetime 10) (Lifetime 10) _ refl,
+      (
+        Number,
+        may-fail (Lifetime 10) Number _ refl,
+        (Check, may-fail Number Check _ refl, tt),
+      ),
+    ),
+  ),
+)
 
 entries-rising : (es : List SnpEntry) (at low high : ℕ) (lo : FrameFault) → before frame-rank frame-place lo (Lifetime at) ≡ true →
-  Rise lo (entries-faults at low high es)
+    Rise lo (entries-faults at low high es)
 entries-rising [] at low high lo h = tt
-entries-rising (e ∷ es) at low high lo h =
-    (Lifetime at, may-fail lo (Lifetime at) _ h,
-    (Order (at + 2), may-fail (Lifetime at) (Order (at + 2)) _ (le-leb at (at + 2) (omega arith)),
-    entries-rising es (at + 16) (e .id + 1) high (Order (at + 2)) (le-leb (at + 2) (at + 16) (omega arith))))
+entries-rising (e ∷ es) at low high lo h = (
+  Lifetime at,
+  may-fail lo (Lifetime at) _ h,
+  (
+    Order (at + 2),
+    may-fail (Lifetime at) (Order (at + 2)) _ (le-leb at (at + 2) (omega arith)),
+    entries-rising es (at + 16) (e .id + 1) high (Order (at + 2)) (le-leb (at + 2) (at + 16) (omega arith)),
+  ),
+)
 
 kind-rising : (o : Option Kind) (f : List ℕ) → Rise Length (kind-faults o f)
 kind-rising None f = tt
 kind-rising (Some Lsp) f = lsp-rising f
-kind-rising (Some Csnp) f =
-    (Tail 33, may-fail Length (Tail 33) _ refl,
-    (Range, may-fail (Tail 33) Range _ refl, entries-rising (entries-of 33 f) 35 (field 17 8 f) (field 25 8 f) Range refl))
+kind-rising (Some Csnp) f = (
+  Tail 33,
+  may-fail Length (Tail 33) _ refl,
+  (Range, may-fail (Tail 33) Range _ refl, entries-rising (entries-of 33 f) 35 (field 17 8 f) (field 25 8 f) Range refl),
+)
 kind-rising (Some Psnp) f =
     (Tail 17, may-fail Length (Tail 17) _ refl, entries-rising (entries-of 17 f) 19 0 last-id (Tail 17) refl)
 
@@ -100,7 +129,7 @@ pub first-refusal : (f : List ℕ) → refusal f ≡ orOther (first-fault (heade
 first-refusal f =
     let k = kind-faults (kind-of f) f in
     let a : refusal f ≡ first-of (faults f) =
-      rising-first frame-rank frame-place (Short (length f)) (faults f) (header-rising f k (kind-rising (kind-of f) f))
+    rising-first frame-rank frame-place (Short (length f)) (faults f) (header-rising f k (kind-rising (kind-of f) f))
     in
     let b : first-of (faults f) ≡ orOther (first-of (header-faults f)) (first-of k) = foremost-append frame-rank frame-place (header-faults f) k in
     let c : first-fault (header-faults f) ≡ first-of (header-faults f) = first-header f in
@@ -121,7 +150,7 @@ header-checks f =
 lsp-first : (f : List ℕ) → first-fault (lsp-faults f) ≡ orOther (body-fault 27 (drop 27 f)) (first-of (header-checks f))
 lsp-first f =
     let a : first-of (lsp-faults f) ≡ orOther (first-of (body-faults 27 (drop 27 f))) (first-of (header-checks f)) =
-      foremost-append frame-rank frame-place (body-faults 27 (drop 27 f)) (header-checks f)
+    foremost-append frame-rank frame-place (body-faults 27 (drop 27 f)) (header-checks f)
     in
     first-kind (Some Lsp) f ∙ a ∙ ap (λ (o : Option FrameFault). orOther o (first-of (header-checks f))) (sym (body-first 27 (drop 27 f)))
 
@@ -170,11 +199,11 @@ module _ (n k place low high : ℕ) (octets : List ℕ) (h : k < n) where
 
   module _ (l : field (16 * k) 2 octets ≤ 1200) where
     pub here-order : (ltb (field (16 * k + 2) 8 octets) low || ltb high (field (16 * k + 2) 8 octets)) ≡ true →
-      remaining n k place low high octets ≡ Some (Order (place + 16 * k + 2))
+        remaining n k place low high octets ≡ Some (Order (place + 16 * k + 2))
     here-order o = here ∙ rw (le-ltb 1200 (field (16 * k) 2 octets) l, o) refl
 
     pub here-right : (ltb (field (16 * k + 2) 8 octets) low || ltb high (field (16 * k + 2) 8 octets)) ≡ false →
-      remaining n k place low high octets ≡ remaining n (k + 1) place (field (16 * k + 2) 8 octets + 1) high octets
+        remaining n k place low high octets ≡ remaining n (k + 1) place (field (16 * k + 2) 8 octets + 1) high octets
     here-right o =
         let p : place + 16 * k + 16 ≡ place + 16 * (k + 1) = omega arith in
         let q : 16 * k + 16 ≡ 16 * (k + 1) = omega arith in
@@ -212,7 +241,7 @@ module _ (f : List ℕ) (t : tail-right (drop 33 f) ≡ true) where
   csnp-range-fault r = first-kind (Some Csnp) f ∙ rw (t, lt-ltb (field 25 8 f) (field 17 8 f) r) refl
 
   pub csnp-entries : field 17 8 f ≤ field 25 8 f →
-    first-fault (csnp-faults f) ≡ first-fault (entries-faults 35 (field 17 8 f) (field 25 8 f) (entries-of 33 f))
+      first-fault (csnp-faults f) ≡ first-fault (entries-faults 35 (field 17 8 f) (field 25 8 f) (entries-of 33 f))
   csnp-entries r =
       first-kind (Some Csnp) f
       ∙ rw (t, le-ltb (field 25 8 f) (field 17 8 f) r) refl
@@ -222,10 +251,10 @@ pub psnp-tail-fault : (f : List ℕ) → tail-right (drop 17 f) ≡ false → fi
 psnp-tail-fault f t = first-kind (Some Psnp) f ∙ rw t refl
 
 pub psnp-entries : (f : List ℕ) → tail-right (drop 17 f) ≡ true →
-  first-fault (psnp-faults f) ≡ first-fault (entries-faults 19 0 last-id (entries-of 17 f))
+    first-fault (psnp-faults f) ≡ first-fault (entries-faults 19 0 last-id (entries-of 17 f))
 psnp-entries f t = first-kind (Some Psnp) f ∙ rw t refl ∙ sym (first-entries (entries-of 17 f) 19 0 last-id)
 
 -- the same faults at entries that are the same
 pub same-first : (at low low′ high high′ : ℕ) (es es′ : List SnpEntry) → low ≡ low′ → high ≡ high′ → es ≡ es′ →
-  first-fault (entries-faults at low high es) ≡ first-fault (entries-faults at low′ high′ es′)
+    first-fault (entries-faults at low high es) ≡ first-fault (entries-faults at low′ high′ es′)
 same-first at low low′ high high′ es es′ p q r = rw (p, q, r) refl

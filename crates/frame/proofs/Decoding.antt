@@ -24,7 +24,7 @@ headed-ok None (Some x) k e = (refl, cc)
 headed-ok (Some x) o k e = let z : _≡_ {A = ℕ} 0 1 = cc in absurd (omega arith)
 
 headed-err : (h : Option FrameFault) (o : Option Kind) (e : FrameFault) (f : List ℕ) → headed h o ≡ Err e →
-  answered (orOther h (first-fault (kind-faults o f))) o f ≡ Err e
+    answered (orOther h (first-fault (kind-faults o f))) o f ≡ Err e
 headed-err None None e f p = cc
 headed-err None (Some x) e f p = let z : _≡_ {A = ℕ} 0 1 = cc in absurd (omega arith)
 headed-err (Some x) o e f p = cc

@@ -42,7 +42,7 @@ check-from f g at k e =
     (ap (λ (n : ℕ). getD f n 0) (let a : at + k + 1 ≡ at + (k + 1) = omega arith in a) ∙ octet-from f g at (k + 1) e)
 
 pub made-entry : (t t′ i i′ n n′ : ℕ) (c c′ : CheckOctets) → t ≡ t′ → i ≡ i′ → n ≡ n′ → c ≡ c′ →
-  _≡_ {A = SnpEntry} (record { lifetime = t; id = i; number = n; check = c }) (record { lifetime = t′; id = i′; number = n′; check = c′ })
+    _≡_ {A = SnpEntry} (record { lifetime = t; id = i; number = n; check = c }) (record { lifetime = t′; id = i′; number = n′; check = c′ })
 made-entry t t′ i i′ n n′ c c′ p q r s = rw (p, q, r, s) refl
 
 -- an entry at an offset is the one at the front of what stands there
@@ -54,7 +54,7 @@ entry-read : (e : SnpEntry) (rest f : List ℕ) (at : ℕ) → Entry-fits e → 
 entry-read e rest f at h p =
     entry-from f (entry-octets e ++ rest) at p
     ∙ made-entry _ _ _ _ _ _ _ _ (value-octets 2 (e .lifetime) (omega (arith, h .lifetime))) (value-octets 8 (e .id) (h .id))
-      (value-octets 4 (e .number) (h .number)) refl
+    (value-octets 4 (e .number) (h .number)) refl
 
 entry-past : (e : SnpEntry) (rest f : List ℕ) (at : ℕ) → drop at f ≡ entry-octets e ++ rest → drop (at + 16) f ≡ rest
 entry-past e rest f at p = sym (drop-drop 16 at f) ∙ ap (drop 16) p
@@ -95,10 +95,13 @@ tail-read (e ∷ es) f size h p =
 
 pub entries-none : (es : List SnpEntry) (at low high : ℕ) → All Entry-fits es → Rises low high es → No-faults (entries-faults at low high es)
 entries-none [] at low high h r = tt
-entries-none (e ∷ es) at low high h r =
-    (not-fails _ (Lifetime at) (le-ltb 1200 (e .lifetime) (h .0 .lifetime)),
-    (not-fails _ (Order (at + 2)) (or-false _ _ (le-ltb (e .id) low (r .0)) (le-ltb high (e .id) (r .1))),
-    entries-none es (at + 16) (e .id + 1) high (h .1) (r .2)))
+entries-none (e ∷ es) at low high h r = (
+  not-fails _ (Lifetime at) (le-ltb 1200 (e .lifetime) (h .0 .lifetime)),
+  (
+    not-fails _ (Order (at + 2)) (or-false _ _ (le-ltb (e .id) low (r .0)) (le-ltb high (e .id) (r .1))),
+    entries-none es (at + 16) (e .id + 1) high (h .1) (r .2),
+  ),
+)
 
 -- entries without a fault rise
 pub entries-rise : (es : List SnpEntry) (at low high : ℕ) → No-faults (entries-faults at low high es) → Rises low high es
@@ -109,14 +112,16 @@ entries-rise (e ∷ es) at low high z =
 
 -- entries that were read without a fault can be said
 pub entries-fit : (k : ℕ) (f : List ℕ) (at place low high : ℕ) → Octets f → at + 16 * k ≤ length f →
-  No-faults (entries-faults place low high (entries-at k at f)) → All Entry-fits (entries-at k at f)
+    No-faults (entries-faults place low high (entries-at k at f)) → All Entry-fits (entries-at k at f)
 entries-fit zero f at place low high h n z = tt
-entries-fit (suc k) f at place low high h n z =
-    (record {
-      lifetime = ltb-false 1200 (field at 2 f) (fails-not (ltb 1200 (field at 2 f)) (Lifetime place) (z .0));
-      id = field-under f (at + 2) 8 h (omega arith); number = field-under f (at + 10) 4 h (omega arith)
-    },
-    entries-fit k f (at + 16) (place + 16) (field (at + 2) 8 f + 1) high h (omega arith) (z .1 .1))
+entries-fit (suc k) f at place low high h n z = (
+  record {
+    lifetime = ltb-false 1200 (field at 2 f) (fails-not (ltb 1200 (field at 2 f)) (Lifetime place) (z .0));
+    id = field-under f (at + 2) 8 h (omega arith);
+    number = field-under f (at + 10) 4 h (omega arith);
+  },
+  entries-fit k f (at + 16) (place + 16) (field (at + 2) 8 f + 1) high h (omega arith) (z .1 .1),
+)
 
 -- octets that are read as entries are written again
 front-back : (g rest : List ℕ) → Octets g → 16 ≤ length g → drop 16 g ≡ rest → g ≡ entry-octets (entry-at 0 g) ++ rest
@@ -163,8 +168,11 @@ tailed x n xs r =
     let d = and-on (leb 16 n) (leb n 240) (c .1) in
     let n16 : n % 16 ≡ 0 = eqb-true (n % 16) 0 (c .0) in
     record {
-      code = eqb-true x 9 (a .0); count = eqb-true n (length xs) (b .0); whole = omega arith;
-      least = leb-true 16 n (d .0); most = leb-true n 240 (d .1)
+      code = eqb-true x 9 (a .0);
+      count = eqb-true n (length xs) (b .0);
+      whole = omega arith;
+      least = leb-true 16 n (d .0);
+      most = leb-true n 240 (d .1);
     }
 
 some-tail : (k : ℕ) (es : List SnpEntry) → length es ≡ k → 1 ≤ k → tail-octets es ≡ 9 ∷ 16 * k ∷ entries-octets es
@@ -186,7 +194,7 @@ tail-back (x ∷ n ∷ xs) f size h p r =
     let l : length (drop (size + 2) f) ≡ 16 * (n / 16) = ap (length {A = ℕ}) q ∙ (sym (w .count) ∙ w .whole) in
     let s : xs ≡ entries-octets (entries-at (n / 16) (size + 2) f) = sym q ∙ entries-back (n / 16) f (size + 2) h l in
     let t : tail-octets (entries-at (n / 16) (size + 2) f) ≡ 9 ∷ 16 * (n / 16) ∷ entries-octets (entries-at (n / 16) (size + 2) f) =
-      some-tail (n / 16) (entries-at (n / 16) (size + 2) f) (length-entries-at (n / 16) f (size + 2)) (omega (arith, w .least))
+    some-tail (n / 16) (entries-at (n / 16) (size + 2) f) (length-entries-at (n / 16) f (size + 2)) (omega (arith, w .least))
     in
     ap (λ (y : ℕ). y ∷ n ∷ xs) (w .code)
     ∙ ap (λ (y : ℕ). 9 ∷ y ∷ xs) (w .whole)
@@ -196,7 +204,7 @@ tail-back (x ∷ n ∷ xs) f size h p r =
 
 -- how many entries a right tail has, and that they are there
 pub tail-counts : (g f : List ℕ) (size : ℕ) → drop size f ≡ g → tail-right g ≡ true → size ≤ length f →
-  (getD f (size + 1) 0 / 16 ≤ 15) × ((1 ≤ getD f (size + 1) 0 / 16) → size + 2 + 16 * (getD f (size + 1) 0 / 16) ≡ length f)
+    (getD f (size + 1) 0 / 16 ≤ 15) × ((1 ≤ getD f (size + 1) 0 / 16) → size + 2 + 16 * (getD f (size + 1) 0 / 16) ≡ length f)
 tail-counts [] f size p r b =
     let n : getD f (size + 1) 0 ≡ 0 = octet-from f [] size 1 p in (omega arith, λ z. absurd (omega arith))
 tail-counts (x ∷ []) f size p r b = absurd (no-tail x r)
@@ -221,10 +229,11 @@ tail-lists (x ∷ n ∷ xs) v rest code f h =
     let low : 16 ≤ length v = leb-true 16 (length v) (d .0) in
     let high : length v ≤ 240 = leb-true (length v) 240 (d .1) in
     let vn : length v ≡ n = f .value-length in
-    let nx : n ≡ length xs = omega (arith, f .rest-length) in
-    (five _ _ _ _ _ (eq-eqb x 9 (sym (f .code-is) ∙ eqb-true code 9 (a .0))) (eq-eqb n (length xs) nx) (eq-eqb (n % 16) 0 (sym (ap (λ (k : ℕ). k % 16) vn) ∙ n16))
-    (le-leb 16 n (omega arith)) (le-leb n 240 (omega arith)),
-    f .value-is ∙ take-all n xs (omega arith))
+    let nx : n ≡ length xs = omega (arith, f .rest-length) in (
+      five _ _ _ _ _ (eq-eqb x 9 (sym (f .code-is) ∙ eqb-true code 9 (a .0))) (eq-eqb n (length xs) nx) (eq-eqb (n % 16) 0 (sym (ap (λ (k : ℕ). k % 16) vn) ∙ n16))
+          (le-leb 16 n (omega arith)) (le-leb n 240 (omega arith)),
+      f .value-is ∙ take-all n xs (omega arith),
+    )
 
 -- entries at an offset are those of what stands there
 entries-shift : (k : ℕ) (f g : List ℕ) (at j : ℕ) → drop at f ≡ g → entries-at k (at + j) f ≡ entries-at k j g
@@ -253,7 +262,7 @@ tail-listed (x ∷ n ∷ xs) f size p r =
 
 -- the same of a tail and a part that were taken from the frame
 pub listed-of : (size : ℕ) (f t xs : List ℕ) → t ≡ drop size f → (tail-right t ≡ true) × (xs ≡ drop 2 t) →
-  (tail-right (drop size f) ≡ true) × (entries-in xs ≡ entries-of size f)
+    (tail-right (drop size f) ≡ true) × (entries-in xs ≡ entries-of size f)
 listed-of size f t xs e h = (ap tail-right (sym e) ∙ h .0, ap entries-in (h .1) ∙ tail-listed t f size (sym e) (h .0))
 
 pub own-part : (size : ℕ) (f t xs : List ℕ) → t ≡ drop size f → xs ≡ drop 2 t → xs ≡ drop (size + 2) f

@@ -37,7 +37,7 @@ pub answered-ok : (r : Option FrameFault) (o : Option Kind) (k : Kind) (f : List
 answered-ok r o k f p q = rw (p, q) refl
 
 pub answered-is : (r : Option FrameFault) (o : Option Kind) (f : List ℕ) (m : Pdu) → answered r o f ≡ Ok m →
-  (k : Kind) × (r ≡ None) × (o ≡ Some k) × (said k f ≡ m)
+    (k : Kind) × (r ≡ None) × (o ≡ Some k) × (said k f ≡ m)
 answered-is None None f m h = let z : _≡_ {A = ℕ} 0 1 = cc in absurd (omega arith)
 answered-is None (Some k) f m h = (k, refl, refl, cc)
 answered-is (Some e) o f m h = let z : _≡_ {A = ℕ} 0 1 = cc in absurd (omega arith)
@@ -60,7 +60,7 @@ pub kind-octet-is : (n : ℕ) (k : Kind) → kind-named n ≡ Some k → n ≡ k
 kind-octet-is n k h = go (eqb n 18) (eqb n 24) (eqb n 26) refl refl refl h
   where
     go : (a b c : Bool) → eqb n 18 ≡ a → eqb n 24 ≡ b → eqb n 26 ≡ c →
-      cond a (Some Lsp) (cond b (Some Csnp) (cond c (Some Psnp) None)) ≡ Some k → n ≡ kind-octet k
+        cond a (Some Lsp) (cond b (Some Csnp) (cond c (Some Psnp) None)) ≡ Some k → n ≡ kind-octet k
     go true b c p q r e = some-kind Lsp k n e (eqb-true n 18 p)
     go false true c p q r e = some-kind Csnp k n e (eqb-true n 24 q)
     go false false true p q r e = some-kind Psnp k n e (eqb-true n 26 r)
@@ -90,11 +90,11 @@ rights-none [] f h = refl
 rights-none (a ∷ more) f h = rw (eq-eqb (getD f (a .0) 0) (a .1) (h .0)) (rights-none more f (h .1))
 
 first-right : (a : ℕ × ℕ) (more : List (ℕ × ℕ)) (f : List ℕ) → wrong-octet (a ∷ more) f ≡ None →
-  (getD f (a .0) 0 ≡ a .1) × (wrong-octet more f ≡ None)
+    (getD f (a .0) 0 ≡ a .1) × (wrong-octet more f ≡ None)
 first-right a more f h = go (eqb (getD f (a .0) 0) (a .1)) refl h
   where
     go : (b : Bool) → eqb (getD f (a .0) 0) (a .1) ≡ b → cond b (wrong-octet more f) (Some (Fixed (a .0))) ≡ None →
-      (getD f (a .0) 0 ≡ a .1) × (wrong-octet more f ≡ None)
+        (getD f (a .0) 0 ≡ a .1) × (wrong-octet more f ≡ None)
     go true e p = (eqb-true _ _ e, p)
     go false e p = let z : _≡_ {A = ℕ} 0 1 = cc in absurd (omega arith)
 
@@ -119,23 +119,32 @@ pub header-none : (f : List ℕ) (k : Kind) → Heads f k → No-faults (header-
 header-none f k h =
     let e : kind-of f ≡ Some k = kind-is f k h in
     let s : size-of (kind-of f) ≡ header-size k = ap size-of e in
-    let n : 17 ≤ length f = omega (arith, size-least k, h .long) in
-    (not-fails (ltb (length f) 8) (Short (length f)) (le-ltb (length f) 8 (omega arith)),
-    (rights-none fixed f (h .o0, (h .o2, (h .o3, (h .o5, (h .o6, (h .o7, tt)))))),
-    (not-fails (not (isSome (kind-of f))) Unknown-kind (not-so (isSome (kind-of f)) (ap isSome e)),
-    (not-fails (not (eqb (getD f 1 0) (size-of (kind-of f)))) Header (not-so _ (eq-eqb _ _ (h .o1 ∙ sym s))),
-    (not-fails (length-wrong f) Length
-    (or-false _ _ (le-ltb (length f) 10 (omega arith))
-    (or-false _ _ (not-so _ (eq-eqb _ _ (h .total)))
-    (or-false _ _ (le-ltb (length f) _ (omega (arith, s, h .long))) (le-ltb 275 (length f) (h .most))))),
-    tt)))))
+    let n : 17 ≤ length f = omega (arith, size-least k, h .long) in (
+      not-fails (ltb (length f) 8) (Short (length f)) (le-ltb (length f) 8 (omega arith)),
+      (
+        rights-none fixed f (h .o0, (h .o2, (h .o3, (h .o5, (h .o6, (h .o7, tt)))))),
+        (
+          not-fails (not (isSome (kind-of f))) Unknown-kind (not-so (isSome (kind-of f)) (ap isSome e)),
+          (
+            not-fails (not (eqb (getD f 1 0) (size-of (kind-of f)))) Header (not-so _ (eq-eqb _ _ (h .o1 ∙ sym s))),
+            (
+              not-fails (length-wrong f) Length
+                  (or-false _ _ (le-ltb (length f) 10 (omega arith))
+                  (or-false _ _ (not-so _ (eq-eqb _ _ (h .total)))
+                  (or-false _ _ (le-ltb (length f) _ (omega (arith, s, h .long))) (le-ltb 275 (length f) (h .most))))),
+              tt,
+            ),
+          ),
+        ),
+      ),
+    )
 
 pub heads-of : (f : List ℕ) (k : Kind) → No-faults (header-faults f) → kind-of f ≡ Some k → Heads f k
 heads-of f k z e =
     let s : size-of (kind-of f) ≡ header-size k = ap size-of e in
     let w : Rights fixed f = rights fixed f (z .1 .0) in
     let o : getD f 1 0 ≡ size-of (kind-of f) =
-      eqb-true _ _ (not-false (eqb (getD f 1 0) (size-of (kind-of f))) (fails-not _ Header (z .1 .1 .1 .0)))
+    eqb-true _ _ (not-false (eqb (getD f 1 0) (size-of (kind-of f))) (fails-not _ Header (z .1 .1 .1 .0)))
     in
     let d = or-off (ltb (length f) 10) _ (fails-not (length-wrong f) Length (z .1 .1 .1 .1 .0)) in
     let d2 = or-off (not (eqb (field 8 2 f) (length f))) _ (d .1) in
@@ -144,8 +153,17 @@ heads-of f k z e =
     let n : size-of (kind-of f) ≤ length f = ltb-false (length f) (size-of (kind-of f)) (d3 .0) in
     let m : length f ≤ 275 = ltb-false 275 (length f) (d3 .1) in
     record {
-      long = omega (arith, s, n); most = m; o0 = w .0; o1 = o ∙ s; o2 = w .1 .0; o3 = w .1 .1 .0;
-      o4 = kind-octet-is (getD f 4 0) k e; o5 = w .1 .1 .1 .0; o6 = w .1 .1 .1 .1 .0; o7 = w .1 .1 .1 .1 .1 .0; total = t
+      long = omega (arith, s, n);
+      most = m;
+      o0 = w .0;
+      o1 = o ∙ s;
+      o2 = w .1 .0;
+      o3 = w .1 .1 .0;
+      o4 = kind-octet-is (getD f 4 0) k e;
+      o5 = w .1 .1 .1 .0;
+      o6 = w .1 .1 .1 .1 .0;
+      o7 = w .1 .1 .1 .1 .1 .0;
+      total = t;
     }
 
 -- a frame cell by cell and part by part
@@ -174,7 +192,7 @@ field-under f at n h p =
     omega arith
 
 pub begins : (f : List ℕ) (k : Kind) (behind : ℕ) (rest : List ℕ) → Octets f → Heads f k → header-size k + behind ≡ length f → drop 10 f ≡ rest →
-  f ≡ header k behind ++ rest
+    f ≡ header k behind ++ rest
 begins f k behind rest h l t e =
     let n : 17 ≤ length f = omega (arith, size-least k, l .long) in
     cell f 0 131 _ (omega arith) (l .o0)

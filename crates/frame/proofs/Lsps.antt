@@ -44,9 +44,9 @@ live-on n true h p = refl
 live-on n false h p = let q : leb 1 n ≡ true = le-leb 1 n p in sym h ∙ ap (λ (c : Bool). c && true) q
 
 pub made-lsp : (l l′ i i′ n n′ : ℕ) (c c′ : CheckOctets) (g g′ : ℕ) (b b′ : List ℕ) →
-  l ≡ l′ → i ≡ i′ → n ≡ n′ → c ≡ c′ → g ≡ g′ → b ≡ b′ →
-  _≡_ {A = LspPdu} (record { lifetime = l; id = i; number = n; check = c; flags = g; body = b })
-  (record { lifetime = l′; id = i′; number = n′; check = c′; flags = g′; body = b′ })
+    l ≡ l′ → i ≡ i′ → n ≡ n′ → c ≡ c′ → g ≡ g′ → b ≡ b′ →
+    _≡_ {A = LspPdu} (record { lifetime = l; id = i; number = n; check = c; flags = g; body = b })
+    (record { lifetime = l′; id = i′; number = n′; check = c′; flags = g′; body = b′ })
 made-lsp l l′ i i′ n n′ c c′ g g′ b b′ p q r s t u = rw (p, q, r, s, t, u) refl
 
 module _ (f : List ℕ) (m : LspPdu) (l : Lays f m) where
@@ -55,26 +55,44 @@ module _ (f : List ℕ) (m : LspPdu) (l : Lays f m) where
 
   pub lsp-none : Lsp-fits m → No-faults (lsp-faults f)
   lsp-none h =
-      let n : length (drop 27 f) ≡ length (m .body) = ap (length {A = ℕ}) (l .body) in
-      (not-fails (ltb 100 (length (drop 27 f))) (Body 27) (le-ltb 100 (length (drop 27 f)) (omega (arith, n, h .body))),
-      (ap (broken-field 27) (l .body) ∙ whole-none 27 (h .fields),
-      (not-fails _ (Lifetime 10) (le-ltb 1200 (field 10 2 f) (omega (arith, l .lifetime, h .lifetime))),
-      (not-fails _ Number (ne-eqb (field 20 4 f) 0 (λ e. omega (arith, l .number, h .issued, e))),
-      (not-fails (check-wrong f) Check (live _ _ (λ p. ap (right 13) (l .sums) ∙ h .sums (omega (arith, l .lifetime, p)))), tt)))))
+      let n : length (drop 27 f) ≡ length (m .body) = ap (length {A = ℕ}) (l .body) in (
+        not-fails (ltb 100 (length (drop 27 f))) (Body 27) (le-ltb 100 (length (drop 27 f)) (omega (arith, n, h .body))),
+        (
+          ap (broken-field 27) (l .body) ∙ whole-none 27 (h .fields),
+          (
+            not-fails _ (Lifetime 10) (le-ltb 1200 (field 10 2 f) (omega (arith, l .lifetime, h .lifetime))),
+            (
+              not-fails _ Number (ne-eqb (field 20 4 f) 0 (λ e. omega (arith, l .number, h .issued, e))),
+              (not-fails (check-wrong f) Check (live _ _ (λ p. ap (right 13) (l .sums) ∙ h .sums (omega (arith, l .lifetime, p)))), tt),
+            ),
+          ),
+        ),
+      )
 
 -- a frame that encode makes: every offset computes, since `octets` at a numeral is a row of cells
 pub lays : (m : LspPdu) → m .lifetime < 65536 → m .id < 256 ^ 8 → m .number < 256 ^ 4 → length (m .body) ≤ 248 → Lays (encode (lsp m)) m
 lays m ht hi hn hb =
     record {
       heads = record {
-        long = omega arith; most = omega arith; o0 = refl; o1 = refl; o2 = refl; o3 = refl; o4 = refl; o5 = refl; o6 = refl; o7 = refl;
-        total = value-octets 2 (27 + length (m .body)) (omega arith) ∙ omega arith
+        long = omega arith;
+        most = omega arith;
+        o0 = refl;
+        o1 = refl;
+        o2 = refl;
+        o3 = refl;
+        o4 = refl;
+        o5 = refl;
+        o6 = refl;
+        o7 = refl;
+        total = value-octets 2 (27 + length (m .body)) (omega arith) ∙ omega arith;
       };
       body = refl;
       lifetime = value-octets 2 (m .lifetime) (omega arith);
       id = value-octets 8 (m .id) hi;
       number = value-octets 4 (m .number) hn;
-      check = refl; flags = refl; sums = refl
+      check = refl;
+      flags = refl;
+      sums = refl;
     }
 
 module _ (f : List ℕ) (h : Octets f) (l : Heads f Lsp) where
@@ -98,7 +116,11 @@ module _ (f : List ℕ) (h : Octets f) (l : Heads f Lsp) where
       let c : covered-part (lsp-in f) ≡ drop 12 f = ap (drop 12) lsp-back in
       let s : check-wrong f ≡ false = fails-not (check-wrong f) Check (p .1 .1 .1 .1 .0) in
       record {
-        lifetime = t; id = field-under f 12 8 h (omega (arith, l .long)); number = field-under f 20 4 h (omega (arith, l .long)); issued = omega (arith, z);
-        body = n; fields = none-whole 27 (drop 27 f) (p .1 .0);
-        sums = λ v. ap (right 13) c ∙ live-on (field 10 2 f) (right 13 (drop 12 f)) s v
+        lifetime = t;
+        id = field-under f 12 8 h (omega (arith, l .long));
+        number = field-under f 20 4 h (omega (arith, l .long));
+        issued = omega (arith, z);
+        body = n;
+        fields = none-whole 27 (drop 27 f) (p .1 .0);
+        sums = λ v. ap (right 13) c ∙ live-on (field 10 2 f) (right 13 (drop 12 f)) s v;
       }

@@ -20,11 +20,11 @@ use Rattle.frame.proofs.Heads.{No-faults, Heads, run, begins, octets-field, fi
 use Rattle.frame.proofs.EntryLists.{length-tail, tail-fits, tail-read, entries-none, entries-rise, entries-fit, tail-back, tail-counts, length-entries-at}
 
 pub made-psnp : (s s′ : ℕ) (es es′ : List SnpEntry) → s ≡ s′ → es ≡ es′ →
-  _≡_ {A = PsnpPdu} (record { source = s; entries = es }) (record { source = s′; entries = es′ })
+    _≡_ {A = PsnpPdu} (record { source = s; entries = es }) (record { source = s′; entries = es′ })
 made-psnp s s′ es es′ p q = rw (p, q) refl
 
 pub made-csnp : (s s′ a a′ b b′ : ℕ) (es es′ : List SnpEntry) → s ≡ s′ → a ≡ a′ → b ≡ b′ → es ≡ es′ →
-  _≡_ {A = CsnpPdu} (record { source = s; start = a; end = b; entries = es }) (record { source = s′; start = a′; end = b′; entries = es′ })
+    _≡_ {A = CsnpPdu} (record { source = s; start = a; end = b; entries = es }) (record { source = s′; start = a′; end = b′; entries = es′ })
 made-csnp s s′ a a′ b b′ es es′ p q r t = rw (p, q, r, t) refl
 
 same-faults : (at x x′ y y′ : ℕ) (es es′ : List SnpEntry) → x ≡ x′ → y ≡ y′ → es ≡ es′ → entries-faults at x y es ≡ entries-faults at x′ y′ es′
@@ -39,17 +39,27 @@ module _ (f : List ℕ) (m : PsnpPdu) (h : Psnp-fits m) (s : field 10 7 f ≡ m 
   psnp-says = made-psnp _ _ _ _ s psnp-listed
 
   pub psnp-none : No-faults (psnp-faults f)
-  psnp-none =
-      (not-fails _ (Tail 17) (not-so _ (ap tail-right t ∙ tail-fits (m .entries) (h .few))),
-      subst (λ (es : List SnpEntry). No-faults (entries-faults 19 0 last-id es)) (sym psnp-listed)
-      (entries-none (m .entries) 19 0 last-id (h .entries) (h .rising)))
+  psnp-none = (
+    not-fails _ (Tail 17) (not-so _ (ap tail-right t ∙ tail-fits (m .entries) (h .few))),
+    subst (λ (es : List SnpEntry). No-faults (entries-faults 19 0 last-id es)) (sym psnp-listed)
+        (entries-none (m .entries) 19 0 last-id (h .entries) (h .rising)),
+  )
 
 pub psnp-heads : (m : PsnpPdu) → length (m .entries) ≤ 15 → Heads (encode (psnp m)) Psnp
 psnp-heads m few =
     let n : length (tail-octets (m .entries)) ≤ 242 = length-tail (m .entries) few in
     record {
-      long = omega arith; most = omega arith; o0 = refl; o1 = refl; o2 = refl; o3 = refl; o4 = refl; o5 = refl; o6 = refl; o7 = refl;
-      total = value-octets 2 (17 + length (tail-octets (m .entries))) (omega arith) ∙ omega arith
+      long = omega arith;
+      most = omega arith;
+      o0 = refl;
+      o1 = refl;
+      o2 = refl;
+      o3 = refl;
+      o4 = refl;
+      o5 = refl;
+      o6 = refl;
+      o7 = refl;
+      total = value-octets 2 (17 + length (tail-octets (m .entries))) (omega arith) ∙ omega arith;
     }
 
 module _ (f : List ℕ) (m : CsnpPdu) (h : Csnp-fits m) (s : field 10 7 f ≡ m .source)
@@ -61,18 +71,30 @@ module _ (f : List ℕ) (m : CsnpPdu) (h : Csnp-fits m) (s : field 10 7 f ≡ m 
   csnp-says = made-csnp _ _ _ _ _ _ _ _ s a b csnp-listed
 
   pub csnp-none : No-faults (csnp-faults f)
-  csnp-none =
-      (not-fails _ (Tail 33) (not-so _ (ap tail-right t ∙ tail-fits (m .entries) (h .few))),
-      (not-fails _ Range (le-ltb (field 25 8 f) (field 17 8 f) (omega (arith, a, b, h .range))),
+  csnp-none = (
+    not-fails _ (Tail 33) (not-so _ (ap tail-right t ∙ tail-fits (m .entries) (h .few))),
+    (
+      not-fails _ Range (le-ltb (field 25 8 f) (field 17 8 f) (omega (arith, a, b, h .range))),
       subst No-faults (sym (same-faults 35 _ _ _ _ _ _ a b csnp-listed))
-      (entries-none (m .entries) 35 (m .start) (m .end) (h .entries) (h .rising))))
+          (entries-none (m .entries) 35 (m .start) (m .end) (h .entries) (h .rising)),
+    ),
+  )
 
 pub csnp-heads : (m : CsnpPdu) → length (m .entries) ≤ 15 → Heads (encode (csnp m)) Csnp
 csnp-heads m few =
     let n : length (tail-octets (m .entries)) ≤ 242 = length-tail (m .entries) few in
     record {
-      long = omega arith; most = omega arith; o0 = refl; o1 = refl; o2 = refl; o3 = refl; o4 = refl; o5 = refl; o6 = refl; o7 = refl;
-      total = value-octets 2 (33 + length (tail-octets (m .entries))) (omega arith) ∙ omega arith
+      long = omega arith;
+      most = omega arith;
+      o0 = refl;
+      o1 = refl;
+      o2 = refl;
+      o3 = refl;
+      o4 = refl;
+      o5 = refl;
+      o6 = refl;
+      o7 = refl;
+      total = value-octets 2 (33 + length (tail-octets (m .entries))) (omega arith) ∙ omega arith;
     }
 
 -- a summary's entries, read from a frame with a right tail
@@ -85,7 +107,7 @@ module _ (f : List ℕ) (size : ℕ) (h : Octets f) (b : size ≤ length f) (r :
   fit-entries place low high z = go (getD f (size + 1) 0 / 16) (tail-counts (drop size f) f size refl r b .1) z
     where
       go : (k : ℕ) → (1 ≤ k → size + 2 + 16 * k ≡ length f) → No-faults (entries-faults place low high (entries-at k (size + 2) f)) →
-        All Entry-fits (entries-at k (size + 2) f)
+          All Entry-fits (entries-at k (size + 2) f)
       go zero e z = tt
       go (suc k) e z = entries-fit (suc k) f (size + 2) place low high h (omega (arith, e (omega arith))) z
 
@@ -105,8 +127,10 @@ module _ (f : List ℕ) (h : Octets f) (l : Heads f Psnp) (z : No-faults (psnp-f
   pub psnp-fitting : Psnp-fits (psnp-in f)
   psnp-fitting =
       record {
-        source = field-under f 10 7 h (l .long); entries = fit-entries f 17 h (l .long) psnp-tail 19 0 last-id (z .1);
-        few = few-entries f 17 h (l .long) psnp-tail; rising = entries-rise (entries-of 17 f) 19 0 last-id (z .1)
+        source = field-under f 10 7 h (l .long);
+        entries = fit-entries f 17 h (l .long) psnp-tail 19 0 last-id (z .1);
+        few = few-entries f 17 h (l .long) psnp-tail;
+        rising = entries-rise (entries-of 17 f) 19 0 last-id (z .1);
       }
 
 module _ (f : List ℕ) (h : Octets f) (l : Heads f Csnp) (z : No-faults (csnp-faults f)) where
@@ -127,8 +151,11 @@ module _ (f : List ℕ) (h : Octets f) (l : Heads f Csnp) (z : No-faults (csnp-f
   pub csnp-fitting : Csnp-fits (csnp-in f)
   csnp-fitting =
       record {
-        source = field-under f 10 7 h (omega (arith, l .long)); start = field-under f 17 8 h (omega (arith, l .long));
-        end = field-under f 25 8 h (l .long); range = ltb-false (field 25 8 f) (field 17 8 f) (fails-not _ Range (z .1 .0));
+        source = field-under f 10 7 h (omega (arith, l .long));
+        start = field-under f 17 8 h (omega (arith, l .long));
+        end = field-under f 25 8 h (l .long);
+        range = ltb-false (field 25 8 f) (field 17 8 f) (fails-not _ Range (z .1 .0));
         entries = fit-entries f 33 h (l .long) csnp-tail 35 (field 17 8 f) (field 25 8 f) (z .1 .1);
-        few = few-entries f 33 h (l .long) csnp-tail; rising = entries-rise (entries-of 33 f) 35 (field 17 8 f) (field 25 8 f) (z .1 .1)
+        few = few-entries f 33 h (l .long) csnp-tail;
+        rising = entries-rise (entries-of 33 f) 35 (field 17 8 f) (field 25 8 f) (z .1 .1);
       }

@@ -2,6 +2,7 @@
 use Prim.Native.Nat.{ℕ, _+_, _≤_, _<_, _^_}
 use mathlib.Core.Path.{_≡_, refl, ap, sym, subst, _∙_}
 use mathlib.Core.List.{List, [], _∷_, _++_}
+use lib.ListN.{drop}
 use native.Mathlib.Omega.{arith}
 use Rattle.std.specs.declared.option.Option.{Option}
 use Rattle.std.specs.declared.option.Option.the-variants.{Some, None}
@@ -15,9 +16,12 @@ use Rattle.octets.specs.Octets.{Octets}
 use Rattle.octets.proofs.Numbers.{value-octets}
 use Rattle.frame.specs.declared.kind.Kind.{Kind}
 use Rattle.frame.specs.declared.kind.Kind.the-variants.{Lsp, Csnp, Psnp}
+use Rattle.frame.specs.declared.message.Message.{Message}
+use Rattle.frame.specs.declared.message.Message.the-variants as Message
+use Rattle.frame.specs.Meaning.{message-said, Own-parts, content-octets}
 use Rattle.frame.specs.Messages.{LspPdu, CsnpPdu, PsnpPdu, Pdu, lsp, csnp, psnp, encode}
 use Rattle.frame.specs.Reading.{kind-of, header-faults, kind-faults, faults, refusal, said, decode}
-use Rattle.frame.specs.Trip.{Reads, Lsp-fits, Csnp-fits, Psnp-fits, Fits, Reads-back, Writes-back, Read-fits}
+use Rattle.frame.specs.Trip.{Reads, content-place, Lsp-fits, Csnp-fits, Psnp-fits, Fits, Reads-back, Writes-back, Read-fits}
 use Rattle.frame.proofs.Heads.{No-faults, Heads, answered-ok, answered-is, kind-is, header-none, heads-of}
 use Rattle.frame.proofs.Lsps.{Lays, lays, lsp-says, lsp-none, lsp-back, lsp-fitting}
 use Rattle.frame.proofs.Summaries.{psnp-heads, psnp-says, psnp-none, psnp-back, psnp-fitting, csnp-heads, csnp-says, csnp-none, csnp-back, csnp-fitting}
@@ -77,6 +81,14 @@ read-fits f m o h = let w = was-read f m h in subst Fits (w .3) (said-fits f (w 
 pub reads : (f : List ℕ) (answer : Result Pdu FrameFault) → Octets f → decode f ≡ answer → Reads f answer
 reads f answer o e =
     record {
-      is = e; soonest = answers frame-rank frame-place (faults f);
-      back = λ m h. writes-back f m o (e ∙ h); fits = λ m h. read-fits f m o (e ∙ h)
+      is = e;
+      soonest = answers frame-rank frame-place (faults f);
+      back = λ m h. writes-back f m o (e ∙ h);
+      fits = λ m h. read-fits f m o (e ∙ h);
     }
+
+-- what a message hands out stands in its frame
+pub own-content : (f : List ℕ) (m : Message) → Own-parts f m → content-octets m ≡ drop (content-place (message-said m)) f
+own-content f (Message.Lsp m) h = h
+own-content f (Message.Csnp m) h = h .0
+own-content f (Message.Psnp m) h = h .0

@@ -53,3 +53,9 @@ abbrev pub Own-parts : List ℕ → Message → Type 0
 Own-parts f (Lsp m) = now (m .body) ≡ drop 27 f
 Own-parts f (Csnp m) = (now (m .entries .octets) ≡ drop 35 f) × (m .entries .place ≡ 35)
 Own-parts f (Psnp m) = (now (m .entries .octets) ≡ drop 19 f) × (m .entries .place ≡ 19)
+
+-- the octets of the body or of the entries
+abbrev pub content-octets : Message → List ℕ
+content-octets (Lsp m) = now (m .body)
+content-octets (Csnp m) = now (m .entries .octets)
+content-octets (Psnp m) = now (m .entries .octets)

@@ -4,8 +4,8 @@ ghost use Rattle.std.specs.declared.result.Result.the-variants.{Err};
 ghost use Rattle.std.specs.Results.{Cases as ByOk};
 ghost use Rattle.std.specs.Vec.{made};
 ghost use Rattle.frame.specs.Reading.{header-answer, decode};
-ghost use Rattle.frame.specs.Meaning.{meant, Own-parts};
-ghost use Rattle.frame.specs.Trip.{Reads, Holds};
+ghost use Rattle.frame.specs.Meaning.{message-said, meant, Own-parts, content-octets};
+ghost use Rattle.frame.specs.Trip.{Reads, content-place, Holds};
 use crate::header::read_header;
 use crate::kind::Kind;
 use crate::lsp::read_lsp;
@@ -46,11 +46,19 @@ impl<'a> FrameReader<'a> {
     pub fn content(&self) -> Result<(usize, &'a [u8]), FrameFault>
         ensures { λ r. ⌜ ByOk r (λ x. Holds (now (now (self .entry) .frame)) (x .0) (now (x .1))) (λ e. decode (now (now (self .entry) .frame)) ≡ Err e) ⌝ }
     {
-        match self.message()? {
-            Message::Lsp(m) => Ok((27, m.body)),
-            Message::Csnp(m) => Ok((35, m.entries.octets)),
-            Message::Psnp(m) => Ok((19, m.entries.octets)),
-        }
+        let message = self.message()?;
+        Ok(content_of(message))
+    }
+}
+
+// The part that a message hands out, and where it stands in its frame.
+fn content_of(m: Message<'_>) -> (usize, &[u8])
+    ensures { λ r. ⌜ (r .0 ≡ content-place (message-said (m .entry))) × (now (r .1) ≡ content-octets (m .entry)) ⌝ }
+{
+    match m {
+        Message::Lsp(m) => (27, m.body),
+        Message::Csnp(m) => (35, m.entries.octets),
+        Message::Psnp(m) => (19, m.entries.octets),
     }
 }
 

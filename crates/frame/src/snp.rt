@@ -71,7 +71,12 @@ fn is_out(id: LspId, start: LspId, end: LspId, last: Option<LspId>) -> bool
 
 // Refuses entries of which one has a lifetime over 1,200, or an identifier that does not rise from start to end.
 // Their first octet stands at this place of the frame.
-pub(crate) fn check_entries(octets: &[u8], place: u16, start: LspId, end: LspId) -> Result<(), FrameFault>
+pub(crate) fn check_entries(
+    octets: &[u8],
+    place: u16,
+    start: LspId,
+    end: LspId,
+) -> Result<(), FrameFault>
     ensures { λ r. ⌜ r ≡ unless (first-fault (entries-faults place (value start) (value end) (entries-in (now (octets .entry))))) tt ⌝ }
 {
     let mut last = None;

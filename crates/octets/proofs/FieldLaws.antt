@@ -16,7 +16,7 @@ use Rattle.fault.specs.declared.FrameFault.{FrameFault}
 use Rattle.fault.specs.declared.FrameFault.the-variants.{Field, Body}
 use Rattle.fault.specs.Refusals.{frame-place}
 use Rattle.fault.specs.Order.{frame-rank, ranked, sooner, unless}
-use Rattle.fault.proofs.Laws.{Rising, foremost, none-of, rising-first, between-fails, ranked-self}
+use Rattle.fault.proofs.Laws.{unless-ok, Rising, foremost, none-of, rising-first, between-fails, ranked-self}
 use Rattle.octets.specs.Fields.{stands, after, Front, Whole, none, field, broken-within, broken-field, body-faults, body-fault}
 
 after-short : (xs : List ℕ) (n : ℕ) → length xs ≤ suc n → length (after xs) ≤ n
@@ -138,10 +138,6 @@ body-short at body h =
     go : (r : Option FrameFault) → sooner frame-rank frame-place r None ≡ r
     go None = refl
     go (Some x) = refl
-
-pub unless-ok : {A F : Type 0} (o : Option F) (x y : A) → unless o x ≡ Ok y → o ≡ None
-unless-ok None x y h = refl
-unless-ok (Some e) x y h = let z : _≡_ {A = ℕ} 0 1 = cc in absurd (omega arith)
 
 -- a body that is not refused is whole fields
 pub body-whole : (at : ℕ) (body : List ℕ) → body-fault at body ≡ None → Whole body

@@ -31,8 +31,9 @@ returns-then-check-is-wrong c =
 
 pub returns : need.returns
 returns c =
-    let f = c .args .f .now in
-    (lsp-right f (body-clear f _ (c .from-body .ensures) (c .in-Continue-check-body .ensures tt .value)) (omega arith) (λ z. omega arith)
-    (sym (c .check-is-wrong .ensures) ∙ c .if-check-is-wrong .left),
-    made-lsp _ _ _ _ _ _ _ _ _ _ _ _ (c .two-at-lifetime .ensures) (ap value (c .id-at .ensures)) (c .four-at-number .ensures)
-    (c .check-octets-at .ensures) refl (c .from-body .ensures))
+    let f = c .args .f .now in (
+      lsp-right f (body-clear f _ (c .from-body .ensures) (c .in-Continue-check-body .ensures tt .value)) (omega arith) (λ z. omega arith)
+          (sym (c .check-is-wrong .ensures) ∙ c .if-check-is-wrong .left),
+      made-lsp _ _ _ _ _ _ _ _ _ _ _ _ (c .two-at-lifetime .ensures) (ap value (c .id-at .ensures)) (c .four-at-number .ensures)
+          (c .check-octets-at .ensures) refl (c .from-body .ensures),
+    )

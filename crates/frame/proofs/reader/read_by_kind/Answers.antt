@@ -28,8 +28,8 @@ pub returns-in-Continue-read-lsp : need.returns-in-Continue-read-lsp
 returns-in-Continue-read-lsp c =
     record {
       reads = kind-read (c .args .f .now) Lsp (sym (c .in-Continue-kind .ensures tt) ∙ ap Ok (c .in-Lsp .is)) (c .in-Continue-read-lsp .ensures tt .0)
-        ∙ ap (λ (m : LspPdu). Ok (lsp m)) (sym (c .in-Continue-read-lsp .ensures tt .1));
-      parts = ap (λ (m : LspPdu). m .body) (c .in-Continue-read-lsp .ensures tt .1)
+          ∙ ap (λ (m : LspPdu). Ok (lsp m)) (sym (c .in-Continue-read-lsp .ensures tt .1));
+      parts = ap (λ (m : LspPdu). m .body) (c .in-Continue-read-lsp .ensures tt .1);
     }
 
 pub read-csnp-requires : need.read-csnp-requires
@@ -45,8 +45,8 @@ pub returns-in-Continue-read-csnp : need.returns-in-Continue-read-csnp
 returns-in-Continue-read-csnp c =
     record {
       reads = kind-read (c .args .f .now) Csnp (sym (c .in-Continue-kind .ensures tt) ∙ ap Ok (c .in-Csnp .is)) (c .in-Continue-read-csnp .ensures tt .0)
-        ∙ ap (λ (m : CsnpPdu). Ok (csnp m)) (sym (c .in-Continue-read-csnp .ensures tt .1));
-      parts = c .in-Continue-read-csnp .ensures tt .2
+          ∙ ap (λ (m : CsnpPdu). Ok (csnp m)) (sym (c .in-Continue-read-csnp .ensures tt .1));
+      parts = c .in-Continue-read-csnp .ensures tt .2;
     }
 
 pub read-psnp-requires : need.read-psnp-requires
@@ -62,6 +62,6 @@ pub returns-in-Continue-read-psnp : need.returns-in-Continue-read-psnp
 returns-in-Continue-read-psnp c =
     record {
       reads = kind-read (c .args .f .now) Psnp (sym (c .in-Continue-kind .ensures tt) ∙ ap Ok (c .in-Psnp .is)) (c .in-Continue-read-psnp .ensures tt .0)
-        ∙ ap (λ (m : PsnpPdu). Ok (psnp m)) (sym (c .in-Continue-read-psnp .ensures tt .1));
-      parts = c .in-Continue-read-psnp .ensures tt .2
+          ∙ ap (λ (m : PsnpPdu). Ok (psnp m)) (sym (c .in-Continue-read-psnp .ensures tt .1));
+      parts = c .in-Continue-read-psnp .ensures tt .2;
     }

@@ -33,7 +33,7 @@ returns-then-is-out c =
     (sym (at-first n (c .args .place) (value (c .args .start)) high xs)
     ∙ c .loop-k .inv
     ∙ here-order n (c .loop-k .k) (c .args .place) low high xs (omega arith) (omega arith)
-      (ap (λ (i : List ℕ). ltb (value i) low || ltb high (value i)) (sym (c .id-at-id .ensures)) ∙ out))
+    (ap (λ (i : List ℕ). ltb (value i) low || ltb high (value i)) (sym (c .id-at-id .ensures)) ∙ out))
     (ap (λ (p : ℕ). Order (p + 16 * c .loop-k .k + 2)) (c .from .ensures))
 
 pub loop-k-again : need.loop-k-again
@@ -44,7 +44,7 @@ loop-k-again c =
     let high = value (c .args .end) in
     c .loop-k .inv
     ∙ here-right n (c .loop-k .k) (c .args .place) low high xs (omega arith) (omega arith)
-      (ap (λ (i : List ℕ). ltb (value i) low || ltb high (value i)) (sym (c .id-at-id .ensures)) ∙ (sym (c .is-out .ensures) ∙ c .if-is-out .left))
+    (ap (λ (i : List ℕ). ltb (value i) low || ltb high (value i)) (sym (c .id-at-id .ensures)) ∙ (sym (c .is-out .ensures) ∙ c .if-is-out .left))
     ∙ ap (λ (i : List ℕ). remaining n (c .loop-k .k + 1) (c .args .place) (value i + 1) high xs) (sym (c .id-at-id .ensures))
 
 pub returns : need.returns

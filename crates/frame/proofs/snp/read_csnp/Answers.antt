@@ -43,8 +43,9 @@ returns c =
     let l = listed-of 33 f (c .from .result .now) (c .in-Continue-octets .octets .now) (c .from .ensures) (c .in-Continue-octets .ensures tt) in
     let a : value (c .id-at-start .result) ≡ field 17 8 f = ap value (c .id-at-start .ensures) in
     let b : value (c .id-at-end .result) ≡ field 25 8 f = ap value (c .id-at-end .ensures) in
-    let le = ltb-false _ _ (sym (c .if-is-before .ensures tt)) in
-    (csnp-entries f (l .0) (omega (arith, a, b, le))
-    ∙ (sym (same-first 35 _ _ _ _ _ _ a b (l .1)) ∙ unless-ok _ tt tt (sym (c .in-Continue-check-entries .ensures tt))),
-    made-csnp _ _ _ _ _ _ _ _ (ap value (c .source-at .ensures)) a b (l .1),
-    (own-part 33 f _ _ (c .from .ensures) (c .in-Continue-octets .ensures tt .1), refl))
+    let le = ltb-false _ _ (sym (c .if-is-before .ensures tt)) in (
+      csnp-entries f (l .0) (omega (arith, a, b, le))
+          ∙ (sym (same-first 35 _ _ _ _ _ _ a b (l .1)) ∙ unless-ok _ tt tt (sym (c .in-Continue-check-entries .ensures tt))),
+      made-csnp _ _ _ _ _ _ _ _ (ap value (c .source-at .ensures)) a b (l .1),
+      (own-part 33 f _ _ (c .from .ensures) (c .in-Continue-octets .ensures tt .1), refl),
+    )

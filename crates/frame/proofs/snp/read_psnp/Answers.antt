@@ -26,8 +26,9 @@ returns-in-Break-check-entries c =
 pub returns : need.returns
 returns c =
     let f = c .args .f .now in
-    let l = listed-of 17 f (c .from .result .now) (c .in-Continue-octets .octets .now) (c .from .ensures) (c .in-Continue-octets .ensures tt) in
-    (psnp-entries f (l .0)
-    ∙ (sym (same-first 19 _ _ _ _ _ _ refl refl (l .1)) ∙ unless-ok _ tt tt (sym (c .in-Continue-check-entries .ensures tt))),
-    made-psnp _ _ _ _ (ap value (c .source-at .ensures)) (l .1),
-    (own-part 17 f _ _ (c .from .ensures) (c .in-Continue-octets .ensures tt .1), refl))
+    let l = listed-of 17 f (c .from .result .now) (c .in-Continue-octets .octets .now) (c .from .ensures) (c .in-Continue-octets .ensures tt) in (
+      psnp-entries f (l .0)
+          ∙ (sym (same-first 19 _ _ _ _ _ _ refl refl (l .1)) ∙ unless-ok _ tt tt (sym (c .in-Continue-check-entries .ensures tt))),
+      made-psnp _ _ _ _ (ap value (c .source-at .ensures)) (l .1),
+      (own-part 17 f _ _ (c .from .ensures) (c .in-Continue-octets .ensures tt .1), refl),
+    )

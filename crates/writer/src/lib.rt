@@ -1,0 +1,5 @@
+// Writing: LSPs and summaries into the caller's buffer.
+mod buffer;
+mod lsps;
+
+
