@@ -22,9 +22,8 @@ use crate::message::Entries;
 use crate::message::Psnp;
 use fault::FrameFault;
 use octets::LspId;
-use octets::order;
+use octets::before;
 use octets::read_field;
-use std::cmp::Ordering;
 
 // Whether a field of this code, with this value and this rest behind it, holds 1 to 15 entries and is the last.
 fn lists_entries(code: u8, value: &[u8], rest: &[u8]) -> bool
@@ -52,21 +51,15 @@ pub(crate) fn read_tail(tail: &[u8], size: usize) -> Result<&[u8], FrameFault>
     }
 }
 
-pub(crate) fn is_before(a: LspId, b: LspId) -> bool
-    ensures { λ r. ⌜ r ≡ ltb (value a) (value b) ⌝ }
-{
-    matches!(order(a, b), Ordering::Less)
-}
-
 // Whether an identifier is not over the last one, or under the start where there is none, or over the end.
 fn is_out(id: LspId, start: LspId, end: LspId, last: Option<LspId>) -> bool
     ensures { λ r. ⌜ r ≡ (ltb (value id) (floor (value start) last) || ltb (value end) (value id)) ⌝ }
 {
     let rises = match last {
-        Some(last) => is_before(last, id),
-        None => !is_before(id, start),
+        Some(last) => before(last, id),
+        None => !before(id, start),
     };
-    !rises || is_before(end, id)
+    !rises || before(end, id)
 }
 
 // Refuses entries of which one has a lifetime over 1,200, or an identifier that does not rise from start to end.
@@ -110,7 +103,7 @@ pub(crate) fn read_csnp(f: &[u8]) -> Result<Csnp<'_>, FrameFault>
     let octets = read_tail(from(f, 33), 33)?;
     let start = id_at(f, 17);
     let end = id_at(f, 25);
-    if is_before(end, start) {
+    if before(end, start) {
         return Err(FrameFault::Range);
     }
     check_entries(octets, 35, start, end)?;

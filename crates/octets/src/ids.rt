@@ -1,6 +1,7 @@
 // Identifiers, and their order.
 ghost use mathlib.Core.Path.{_≡_};
 ghost use Prim.Native.Nat.{_<_};
+ghost use lib.Dec.{ltb};
 ghost use Rattle.std.specs.Orderings.{Ranked, Decides};
 ghost use Rattle.octets.specs.Octets.{value};
 use std::cmp::Ordering;
@@ -35,4 +36,11 @@ pub fn same(a: LspId, b: LspId) -> bool
     ensures { λ r. ⌜ Decides r (a ≡ b) ⌝ }
 {
     matches!(order(a, b), Ordering::Equal)
+}
+
+// Whether an identifier comes before another.
+pub fn before(a: LspId, b: LspId) -> bool
+    ensures { λ r. ⌜ r ≡ ltb (value a) (value b) ⌝ }
+{
+    matches!(order(a, b), Ordering::Less)
 }

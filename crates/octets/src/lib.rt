@@ -15,5 +15,6 @@ pub use fields::read_field;
 pub use ids::LspId;
 pub use ids::SourceId;
 pub use ids::SystemId;
+pub use ids::before;
 pub use ids::order;
 pub use ids::same;

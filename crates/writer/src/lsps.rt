@@ -7,6 +7,8 @@ ghost use Rattle.frame.specs.Meaning.{lsp-said};
 ghost use Rattle.writer.specs.Places.{Wrote};
 ghost use Rattle.writer.specs.Writing.{Writes};
 use crate::buffer::header_octets;
+use crate::buffer::id_octets;
+use crate::buffer::number_octets;
 use crate::buffer::put_all;
 use fault::FrameFault;
 use frame::FrameReader;
@@ -20,8 +22,8 @@ fn fill_lsp(m: &Lsp<'_>, frame: &mut [u8]) -> usize
 {
     let at = put_all(frame, 0, &header_octets(Kind::Lsp, m.body.len()));
     let at = put_all(frame, at, &m.lifetime.to_be_bytes());
-    let at = put_all(frame, at, &m.id);
-    let at = put_all(frame, at, &m.number.to_be_bytes());
+    let at = put_all(frame, at, &id_octets(m.id));
+    let at = put_all(frame, at, &number_octets(m.number));
     let at = put_all(frame, at, &[m.check.x, m.check.y, m.flags]);
     put_all(frame, at, m.body)
 }

@@ -16,13 +16,13 @@ returns-in-Break-octets c =
     let h = c .in-Break-octets .ensures tt in
     rw (p .1, p .2, h .1) (csnp-tail-fault (c .args .f .now) (ap tail-right (sym (c .from .ensures)) ∙ h .0))
 
-pub returns-then-is-before : need.returns-then-is-before
-returns-then-is-before c =
+pub returns-then-before : need.returns-then-before
+returns-then-before c =
     let f = c .args .f .now in
     let l = listed-of 33 f (c .from .result .now) (c .in-Continue-octets .octets .now) (c .from .ensures) (c .in-Continue-octets .ensures tt) in
     let a : value (c .id-at-start .result) ≡ field 17 8 f = ap value (c .id-at-start .ensures) in
     let b : value (c .id-at-end .result) ≡ field 25 8 f = ap value (c .id-at-end .ensures) in
-    let lt = ltb-true _ _ (sym (c .if-is-before .ensures tt)) in
+    let lt = ltb-true _ _ (sym (c .if-before .ensures tt)) in
     csnp-range-fault f (l .0) (omega (arith, a, b, lt))
 
 pub returns-in-Break-check-entries : need.returns-in-Break-check-entries
@@ -32,7 +32,7 @@ returns-in-Break-check-entries c =
     let l = listed-of 33 f (c .from .result .now) (c .in-Continue-octets .octets .now) (c .from .ensures) (c .in-Continue-octets .ensures tt) in
     let a : value (c .id-at-start .result) ≡ field 17 8 f = ap value (c .id-at-start .ensures) in
     let b : value (c .id-at-end .result) ≡ field 25 8 f = ap value (c .id-at-end .ensures) in
-    let le = ltb-false _ _ (sym (c .if-is-before .ensures tt)) in
+    let le = ltb-false _ _ (sym (c .if-before .ensures tt)) in
     rw (p .1, p .2)
     (csnp-entries f (l .0) (omega (arith, a, b, le))
     ∙ (sym (same-first 35 _ _ _ _ _ _ a b (l .1)) ∙ unless-err _ tt _ (sym (c .in-Break-check-entries .ensures tt))))
@@ -43,7 +43,7 @@ returns c =
     let l = listed-of 33 f (c .from .result .now) (c .in-Continue-octets .octets .now) (c .from .ensures) (c .in-Continue-octets .ensures tt) in
     let a : value (c .id-at-start .result) ≡ field 17 8 f = ap value (c .id-at-start .ensures) in
     let b : value (c .id-at-end .result) ≡ field 25 8 f = ap value (c .id-at-end .ensures) in
-    let le = ltb-false _ _ (sym (c .if-is-before .ensures tt)) in (
+    let le = ltb-false _ _ (sym (c .if-before .ensures tt)) in (
       csnp-entries f (l .0) (omega (arith, a, b, le))
           ∙ (sym (same-first 35 _ _ _ _ _ _ a b (l .1)) ∙ unless-ok _ tt tt (sym (c .in-Continue-check-entries .ensures tt))),
       made-csnp _ _ _ _ _ _ _ _ (ap value (c .source-at .ensures)) a b (l .1),
