@@ -90,16 +90,16 @@ module _ {F : Type 0} (rank place : F → ℕ) where
   Rising lo [] = Unit {0}
   Rising lo (r ∷ rs) = (hi : F) × Between lo r hi × Rising hi rs
 
-  trans : (a b c : F) → before rank place a b ≡ true → before rank place b c ≡ true → before rank place a c ≡ true
-  trans a b c p q = ranked-trans (rank a) (place a) (rank b) (place b) (rank c) (place c) p q
+  pub before-trans : (a b c : F) → before rank place a b ≡ true → before rank place b c ≡ true → before rank place a c ≡ true
+  before-trans a b c p q = ranked-trans (rank a) (place a) (rank b) (place b) (rank c) (place c) p q
 
   over : (lo hi : F) (r : Option F) → Between lo r hi → before rank place lo hi ≡ true
   over lo hi None h = h
-  over lo hi (Some x) h = trans lo x hi (h .0) (h .1)
+  over lo hi (Some x) h = before-trans lo x hi (h .0) (h .1)
 
-  foremost-over : (lo : F) (rs : List (Option F)) → Rising lo rs → (b : F) → foremost rs ≡ Some b → before rank place lo b ≡ true
+  pub foremost-over : (lo : F) (rs : List (Option F)) → Rising lo rs → (b : F) → foremost rs ≡ Some b → before rank place lo b ≡ true
   foremost-over lo [] h b e = let z : _≡_ {A = ℕ} 0 1 = cc in absurd (omega arith)
-  foremost-over lo (None ∷ rs) h b e = trans lo (h .0) b (h .1) (foremost-over (h .0) rs (h .2) b e)
+  foremost-over lo (None ∷ rs) h b e = before-trans lo (h .0) b (h .1) (foremost-over (h .0) rs (h .2) b e)
   foremost-over lo (Some x ∷ rs) h b e = let p : x ≡ b = cc in rw (← p) (h .1 .0)
 
   -- refusals that rise are answered in their order
@@ -111,7 +111,7 @@ module _ {F : Type 0} (rank place : F → ℕ) where
       go : (s : Option F) → foremost rs ≡ s → sooner rank place (Some x) s ≡ Some x
       go None e = refl
       go (Some b) e =
-          let p : before rank place x b ≡ true = trans x (h .0) b (h .1 .1) (foremost-over (h .0) rs (h .2) b e) in
+          let p : before rank place x b ≡ true = before-trans x (h .0) b (h .1 .1) (foremost-over (h .0) rs (h .2) b e) in
           rw p refl
 
   -- a cause that may be there

@@ -106,7 +106,7 @@ entries-rising (e ∷ es) at low high lo h = (
   ),
 )
 
-kind-rising : (o : Option Kind) (f : List ℕ) → Rise Length (kind-faults o f)
+pub kind-rising : (o : Option Kind) (f : List ℕ) → Rise Length (kind-faults o f)
 kind-rising None f = tt
 kind-rising (Some Lsp) f = lsp-rising f
 kind-rising (Some Csnp) f = (

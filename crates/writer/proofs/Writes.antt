@@ -6,7 +6,7 @@ use native.Mathlib.Nat.{zero-add, add-zero}
 use native.Mathlib.Numerals.{add-one}
 use native.Mathlib.Omega.{arith}
 use lib.ListN.{length, getD, set, take, drop, length-set, length-append}
-use lib.Seq.{paste}
+use lib.Seq.{paste, take-at}
 use borrow.Rule.Slice.PartMut.{putMid}
 use Rattle.std.proofs.shelf.Lists.{set-split, length-take, length-drop, drop-drop, take-append-drop, take-more, joined-more}
 use Rattle.std.proofs.shelf.Edits.{paste-all, paste-paste}
@@ -67,3 +67,9 @@ wrote-part d at k w v e h l =
 -- the whole, from the front
 pub wrote-front : {d w e : List ℕ} {p : ℕ} → Wrote d 0 w e p → e ≡ w ++ drop (length w) d
 wrote-front {d} {w} {e} {p} x = x .after ∙ ap (λ n. w ++ drop n d) (zero-add (length w))
+
+-- what was written at the front
+pub wrote-taken : {d w e : List ℕ} {p : ℕ} → Wrote d 0 w e p → take (p - 0) e ≡ w
+wrote-taken {d} {w} {e} {p} x =
+    let n : p - 0 ≡ length w = omega (arith, x .place) in
+    ap (λ (k : ℕ). take k e) n ∙ ap (take (length w)) (wrote-front x) ∙ take-at w (drop (length w) d) (length w) refl

@@ -1,5 +1,5 @@
 -- Writing a message into a buffer's front.
-use Prim.Native.Nat.{ℕ}
+use Prim.Native.Nat.{ℕ, _<_, _^_}
 use mathlib.Core.Path.{_≡_}
 use mathlib.Core.Bool.{Bool, true, cond}
 use mathlib.Core.List.{List, [], _∷_, _++_}
@@ -12,7 +12,7 @@ use Rattle.std.specs.declared.result.Result.the-variants.{Ok}
 use Rattle.fault.specs.declared.FrameFault.{FrameFault}
 use Rattle.fault.specs.declared.FrameFault.the-variants.{Size}
 use Rattle.fault.specs.Order.{fails, first-fault, unless}
-use Rattle.frame.specs.Messages.{Pdu, encode}
+use Rattle.frame.specs.Messages.{LspPdu, Pdu, encode}
 use Rattle.frame.specs.Reading.{faults, decode}
 
 -- a buffer under 275 octets is refused, and so is what reading the written frame would refuse
@@ -29,3 +29,9 @@ pub record Writes (m : Pdu) (old new : List ℕ) (answer : Result ℕ FrameFault
   pub after : new ≡ cond (isOk answer) (in-front (encode m) old) old
   -- what was written reads back as it was
   pub back : isOk answer ≡ true → decode (encode m) ≡ Ok m
+
+-- an LSP's numbers fit their octets
+pub record Sized (m : LspPdu) : Type 0 where
+  pub lifetime : m .lifetime < 65536
+  pub id : m .id < 256 ^ 8
+  pub number : m .number < 256 ^ 4

@@ -5,7 +5,7 @@ ghost use lib.ListN.{length};
 ghost use Rattle.frame.specs.Messages.{lsp, encode};
 ghost use Rattle.frame.specs.Meaning.{lsp-said};
 ghost use Rattle.writer.specs.Places.{Wrote};
-ghost use Rattle.writer.specs.Writing.{Writes};
+ghost use Rattle.writer.specs.Writing.{Sized, Writes};
 use crate::buffer::header_octets;
 use crate::buffer::id_octets;
 use crate::buffer::number_octets;
@@ -18,7 +18,8 @@ use frame::Lsp;
 // An LSP's octets at the front of a frame.
 fn fill_lsp(m: &Lsp<'_>, frame: &mut [u8]) -> usize
     requires { ⌜ (length (now (now m .body)) ≤ 248) × (275 ≤ length (now frame)) ⌝ }
-    ensures { λ r. ⌜ Wrote (now (frame .entry)) 0 (encode (lsp (lsp-said (now (m .entry))))) (now (frame .exit)) r ⌝ }
+    ensures wrote { λ r. ⌜ Wrote (now (frame .entry)) 0 (encode (lsp (lsp-said (now (m .entry))))) (now (frame .exit)) r ⌝ }
+    ensures sized { λ _. ⌜ Sized (lsp-said (now (m .entry))) ⌝ }
 {
     let at = put_all(frame, 0, &header_octets(Kind::Lsp, m.body.len()));
     let at = put_all(frame, at, &m.lifetime.to_be_bytes());
@@ -26,4 +27,22 @@ fn fill_lsp(m: &Lsp<'_>, frame: &mut [u8]) -> usize
     let at = put_all(frame, at, &number_octets(m.number));
     let at = put_all(frame, at, &[m.check.x, m.check.y, m.flags]);
     put_all(frame, at, m.body)
+}
+
+// Writes an LSP into the buffer's front, and answers its length. It is refused as reading it would be: whatever the
+// check octets say, the frame is made apart and read before it goes into the buffer.
+pub fn write_lsp(m: &Lsp<'_>, buf: &mut [u8]) -> Result<usize, FrameFault>
+    ensures { λ r. ⌜ Writes (lsp (lsp-said (now (m .entry)))) (now (buf .entry)) (now (buf .exit)) r ⌝ }
+{
+    if buf.len() < 275 {
+        return Err(FrameFault::Size);
+    }
+    if m.body.len() > 248 {
+        return Err(FrameFault::Length);
+    }
+    let mut frame = [0; 275];
+    let n = fill_lsp(m, &mut frame);
+    let whole = &frame[0..n];
+    FrameReader::new(whole).message()?;
+    Ok(put_all(buf, 0, whole))
 }
