@@ -12,6 +12,7 @@ use Rattle.std.specs.declared.result.Result.the-variants.{Ok}
 use Rattle.fault.specs.declared.FrameFault.{FrameFault}
 use Rattle.fault.specs.declared.FrameFault.the-variants.{Size}
 use Rattle.fault.specs.Order.{fails, first-fault, unless}
+use Rattle.octets.specs.declared.checks.CheckOctets.{CheckOctets}
 use Rattle.frame.specs.Messages.{LspPdu, Pdu, encode}
 use Rattle.frame.specs.Reading.{faults, decode}
 
@@ -35,3 +36,7 @@ pub record Sized (m : LspPdu) : Type 0 where
   pub lifetime : m .lifetime < 65536
   pub id : m .id < 256 ^ 8
   pub number : m .number < 256 ^ 4
+
+-- an LSP with these check octets
+abbrev pub with-check-octets : CheckOctets → LspPdu → LspPdu
+with-check-octets c m = record { lifetime = m .lifetime; id = m .id; number = m .number; check = c; flags = m .flags; body = m .body }

@@ -2,10 +2,12 @@
 ghost use mathlib.Core.Path.{_≡_};
 ghost use Prim.Native.Nat.{_+_, _≤_};
 ghost use lib.ListN.{length};
-ghost use Rattle.frame.specs.Messages.{lsp, encode};
+ghost use mathlib.Core.Bool.{true};
+ghost use Rattle.octets.specs.Checks.{check-octets, right};
+ghost use Rattle.frame.specs.Messages.{lsp, covered-part, encode};
 ghost use Rattle.frame.specs.Meaning.{lsp-said};
 ghost use Rattle.writer.specs.Places.{Wrote};
-ghost use Rattle.writer.specs.Writing.{Sized, Writes};
+ghost use Rattle.writer.specs.Writing.{with-check-octets, Sized, Writes};
 use crate::buffer::header_octets;
 use crate::buffer::id_octets;
 use crate::buffer::number_octets;
@@ -14,6 +16,8 @@ use fault::FrameFault;
 use frame::FrameReader;
 use frame::Kind;
 use frame::Lsp;
+use octets::CheckOctets;
+use octets::Sums;
 
 // An LSP's octets at the front of a frame.
 fn fill_lsp(m: &Lsp<'_>, frame: &mut [u8]) -> usize
@@ -45,4 +49,14 @@ pub fn write_lsp(m: &Lsp<'_>, buf: &mut [u8]) -> Result<usize, FrameFault>
     let whole = &frame[0..n];
     FrameReader::new(whole).message()?;
     Ok(put_all(buf, 0, whole))
+}
+
+// The check octets that make an LSP right, whatever it has.
+pub fn computed_check(m: &Lsp<'_>) -> CheckOctets
+    ensures is { λ r. ⌜ r ≡ check-octets 13 (covered-part (lsp-said (now (m .entry)))) ⌝ }
+    ensures right { λ r. ⌜ right 13 (covered-part (with-check-octets r (lsp-said (now (m .entry))))) ≡ true ⌝ }
+{
+    let head = Sums::new().over(&id_octets(m.id)).over(&number_octets(m.number));
+    let all = head.over(&[0, 0, m.flags]).over(m.body);
+    all.octets(m.body.len() + 2)
 }
