@@ -148,7 +148,7 @@ pub length-entries-at : (k : ℕ) (f : List ℕ) (at : ℕ) → length (entries-
 length-entries-at zero f at = refl
 length-entries-at (suc k) f at = ap suc (length-entries-at k f (at + 16))
 
-and-on : (a b : Bool) → a && b ≡ true → (a ≡ true) × (b ≡ true)
+pub and-on : (a b : Bool) → a && b ≡ true → (a ≡ true) × (b ≡ true)
 and-on true b h = (refl, h)
 and-on false b h = let z : _≡_ {A = ℕ} 0 1 = cc in absurd (omega arith)
 

@@ -40,6 +40,7 @@ pub(crate) fn number_octets(n: u32) -> [u8; 4]
 
 // An identifier in its eight octets.
 pub(crate) fn id_octets(id: LspId) -> [u8; 8]
+    ensures same { λ r. ⌜ r ≡ id ⌝ }
     ensures octets { λ r. ⌜ r ≡ octets 8 (value id) ⌝ }
     ensures under { λ _. ⌜ value id < 256 ^ 8 ⌝ }
 {
@@ -48,6 +49,7 @@ pub(crate) fn id_octets(id: LspId) -> [u8; 8]
 
 // A source in its seven octets.
 pub(crate) fn source_octets(source: SourceId) -> [u8; 7]
+    ensures same { λ r. ⌜ r ≡ source ⌝ }
     ensures octets { λ r. ⌜ r ≡ octets 7 (value source) ⌝ }
     ensures under { λ _. ⌜ value source < 256 ^ 7 ⌝ }
 {

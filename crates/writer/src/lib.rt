@@ -1,5 +1,10 @@
 // Writing: LSPs and summaries into the caller's buffer.
 mod buffer;
 mod lsps;
+mod opens;
+mod summary;
+
 pub use lsps::computed_check;
 pub use lsps::write_lsp;
+pub use summary::OpenSummary;
+pub use summary::SummaryRefusal;
