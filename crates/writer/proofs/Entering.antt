@@ -4,11 +4,11 @@ use mathlib.Core.Path.{_≡_, refl, ap, sym, subst, _∙_}
 use mathlib.Core.Bool.{Bool, true, false, _&&_, not}
 use mathlib.Core.List.{List, [], _∷_, _++_}
 use lib.Dec.{leb, ltb}
-use lib.ListN.{length, getD, set, take}
+use lib.ListN.{length, getD, set, take, drop}
 use borrow.Author.Tests.{le-leb, leb-true, leb-false, le-ltb, lt-ltb, ltb-false}
 use native.Mathlib.Omega.{arith}
 use Rattle.std.proofs.shelf.Ways.{tells}
-use Rattle.std.proofs.shelf.Lists.{length-take-le, take-more-set}
+use Rattle.std.proofs.shelf.Lists.{length-take-le, take-more-set, drop-more, drop-all}
 use Rattle.std.specs.declared.option.Option.the-variants.{Some, None}
 use Rattle.fault.specs.declared.FrameFault.the-variants.{Summary}
 use Rattle.fault.proofs.Laws.{fails-not}
@@ -83,3 +83,18 @@ module _ (xs : List Entry) (n : ℕ) (e : Entry) (few : n ≤ length xs) (h : en
     rises 0 (take (n + 1) (set xs n e)) ≡ true
   took-right l r i m =
       ap (rises 0) (take-more-set xs n e l) ∙ rises-push 0 (take n xs) e r (took .over) (entry-is-right e (took .lifetime) i m)
+
+-- the identifiers from an index on, one after another
+module _ (xs : List Entry) (i start end : ℕ) (h : i < length xs) where
+  one-inside : inside start end (drop i xs) ≡ ((leb start (value (getD xs i blank .id)) && leb (value (getD xs i blank .id)) end) && inside start end (drop (i + 1) xs))
+  one-inside = ap (inside start end) (drop-more xs i blank h)
+
+  pub one-out : (leb start (value (getD xs i blank .id)) && leb (value (getD xs i blank .id)) end) ≡ false → inside start end (drop i xs) ≡ false
+  one-out e = one-inside ∙ rw e refl
+
+  pub one-in : (leb start (value (getD xs i blank .id)) && leb (value (getD xs i blank .id)) end) ≡ true →
+    inside start end (drop i xs) ≡ inside start end (drop (i + 1) xs)
+  one-in e = one-inside ∙ rw e refl
+
+pub all-in : (xs : List Entry) (i start end : ℕ) → length xs ≤ i → inside start end (drop i xs) ≡ true
+all-in xs i start end h = ap (inside start end) (drop-all i xs h)

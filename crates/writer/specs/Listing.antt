@@ -11,6 +11,8 @@ use Rattle.fault.specs.Order.{fails}
 use Rattle.octets.specs.Octets.{value}
 use Rattle.frame.specs.declared.message.Entry.{Entry}
 use Rattle.frame.specs.Reading.{last-id}
+use Rattle.writer.specs.declared.scope.Scope.{Scope}
+use Rattle.writer.specs.declared.scope.Scope.the-variants.{Csnp, Psnp}
 
 -- an entry whose numbers fit a frame, its lifetime at most 1,200
 abbrev pub entry-right : Entry → Bool
@@ -38,3 +40,8 @@ entry-fault es e = fails (leb 15 (length es) || (ltb 1200 (e .lifetime) || ltb (
 -- a range is refused that ends before it starts, or that an entry is not in
 abbrev pub range-fault : List Entry → ℕ → ℕ → Option FrameFault
 range-fault es start end = fails (ltb end start || not (inside start end es)) Summary
+
+-- what a summary is closed with suits its entries
+abbrev pub in-scope : Scope → List Entry → Bool
+in-scope (Csnp start end) es = leb (value start) (value end) && (leb (value end) last-id && inside (value start) (value end) es)
+in-scope Psnp es = true

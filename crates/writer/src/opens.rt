@@ -1,13 +1,19 @@
 // An open summary's methods.
 ghost use mathlib.Core.Path.{_≡_};
-ghost use mathlib.Core.List.{[], _∷_, _++_};
+ghost use mathlib.Core.Bool.{_&&_};
+ghost use mathlib.Core.List.{[], map};
 ghost use Prim.Native.Nat.{_^_, _<_};
-ghost use lib.Dec.{ltb};
+ghost use lib.Dec.{leb, ltb};
 ghost use Rattle.octets.specs.Octets.{value};
 ghost use Rattle.fault.specs.Order.{unless};
-ghost use Rattle.writer.specs.Listing.{next-low, entry-fault, range-fault};
-ghost use Rattle.writer.specs.Summaries.{listed, Adds};
+ghost use Rattle.frame.specs.Meaning.{entry-said};
+ghost use Rattle.writer.specs.declared.scope.Scope.the-variants.{Psnp};
+ghost use Rattle.writer.specs.Listing.{next-low, inside, entry-fault, range-fault};
+ghost use Rattle.writer.specs.Summaries.{listed, said-in, summary-said, Adds, Closes};
+use crate::buffer::id_octets;
 use crate::buffer::source_octets;
+use crate::scope::Scope;
+use crate::summary::ClosedSummary;
 use crate::summary::OpenSummary;
 use crate::summary::SummaryRefusal;
 use fault::FrameFault;
@@ -81,4 +87,73 @@ impl OpenSummary {
             count: count + 1,
         })
     }
+
+    // Refuses a range that ends before it starts or that an entry is not in; the summary stays as it is.
+    pub fn check_range(&self, start: LspId, end: LspId) -> Result<(), FrameFault>
+        ensures { λ r. ⌜ r ≡ unless (range-fault (listed (now (self .entry))) (value start) (value end)) tt ⌝ }
+    {
+        if before(end, start) || !are_inside(&self.entries[0..self.count], start, end) {
+            return Err(FrameFault::Summary);
+        }
+        Ok(())
+    }
+
+    // Closes a CSNP; with a refusal the summary comes back as it was.
+    pub fn close_csnp(self, start: LspId, end: LspId) -> Result<ClosedSummary, SummaryRefusal>
+        ensures { λ r. ⌜ Closes self start end r ⌝ }
+    {
+        if let Err(fault) = self.check_range(start, end) {
+            return Err(SummaryRefusal {
+                summary: self,
+                fault,
+            });
+        }
+        let OpenSummary {
+            source,
+            entries,
+            count,
+        } = self;
+        let end = id_octets(end);
+        Ok(ClosedSummary {
+            source,
+            scope: Scope::Csnp { start, end },
+            entries,
+            count,
+        })
+    }
+
+    // Closes a PSNP, whose range is always the whole.
+    pub fn close_psnp(self) -> ClosedSummary
+        ensures { λ r. ⌜ summary-said r ≡ said-in Psnp (value (self .source)) (map entry-said (listed self)) ⌝ }
+    {
+        let OpenSummary {
+            source,
+            entries,
+            count,
+        } = self;
+        ClosedSummary {
+            source,
+            scope: Scope::Psnp,
+            entries,
+            count,
+        }
+    }
+}
+
+// Whether every identifier lies from start to end.
+fn are_inside(listed: &[Entry], start: LspId, end: LspId) -> bool
+    ensures { λ r. ⌜ r ≡ inside (value start) (value end) (now (listed .entry)) ⌝ }
+{
+    for e in listed {
+        if !is_inside(e.id, start, end) {
+            return false;
+        }
+    }
+    true
+}
+
+fn is_inside(id: LspId, start: LspId, end: LspId) -> bool
+    ensures { λ r. ⌜ r ≡ (leb (value start) (value id) && leb (value id) (value end)) ⌝ }
+{
+    !before(id, start) && !before(end, id)
 }
