@@ -1,19 +1,21 @@
 -- Entries that are taken one after another.
-use Prim.Native.Nat.{ℕ, suc, _+_, _-_, _^_, _≤_, _<_}
+use Prim.Native.Nat.{ℕ, suc, _+_, _-_, _*_, _^_, _≤_, _<_}
 use mathlib.Core.Path.{_≡_, refl, ap, sym, subst, _∙_}
 use mathlib.Core.Bool.{Bool, true, false, _&&_, not}
-use mathlib.Core.List.{List, [], _∷_, _++_}
+use mathlib.Core.List.{List, [], _∷_, _++_, map}
 use lib.Dec.{leb, ltb}
 use lib.ListN.{length, getD, set, take, drop}
 use borrow.Author.Tests.{le-leb, leb-true, leb-false, le-ltb, lt-ltb, ltb-false}
 use native.Mathlib.Omega.{arith}
 use Rattle.std.proofs.shelf.Ways.{tells}
-use Rattle.std.proofs.shelf.Lists.{length-take-le, take-more-set, drop-more, drop-all}
+use Rattle.std.proofs.shelf.Lists.{length-take-le, take-more-set, drop-more, drop-all, take-more, map-append, length-map}
 use Rattle.std.specs.declared.option.Option.the-variants.{Some, None}
 use Rattle.fault.specs.declared.FrameFault.the-variants.{Summary}
 use Rattle.fault.proofs.Laws.{fails-not}
 use Rattle.octets.specs.Octets.{value}
 use Rattle.frame.specs.declared.message.Entry.{Entry}
+use Rattle.frame.specs.Messages.{SnpEntry, entry-octets, entries-octets, tail-octets}
+use Rattle.frame.specs.Meaning.{entry-said}
 use Rattle.frame.specs.Reading.{last-id}
 use Rattle.frame.proofs.Heads.{or-off}
 use Rattle.frame.proofs.EntryLists.{and-on as and-both}
@@ -45,7 +47,7 @@ none-over (x ∷ xs) i h = absurd (omega arith)
 
 -- one entry more at the end
 pub rises-push : (low : ℕ) (es : List Entry) (e : Entry) → rises low es ≡ true → next-low low es ≤ value (e .id) → entry-right e ≡ true →
-  rises low (es ++ e ∷ []) ≡ true
+    rises low (es ++ e ∷ []) ≡ true
 rises-push low [] e h n r = rw (le-leb low (value (e .id)) n, r) refl
 rises-push low (x ∷ es) e h n r =
     let a = and-both (leb low (value (x .id))) _ h in
@@ -67,8 +69,9 @@ passes es e h =
     let a = or-off (leb 15 (length es)) _ (fails-not _ Summary h) in
     let b = or-off (ltb 1200 (e .lifetime)) (ltb (value (e .id)) (next-low 0 es)) (a .1) in
     record {
-      room = leb-false 15 (length es) (a .0); lifetime = ltb-false 1200 (e .lifetime) (b .0);
-      over = ltb-false (value (e .id)) (next-low 0 es) (b .1)
+      room = leb-false 15 (length es) (a .0);
+      lifetime = ltb-false 1200 (e .lifetime) (b .0);
+      over = ltb-false (value (e .id)) (next-low 0 es) (b .1);
     }
 
 -- the entries of a table, after one more
@@ -80,7 +83,7 @@ module _ (xs : List Entry) (n : ℕ) (e : Entry) (few : n ≤ length xs) (h : en
   took-room = let p : length (take n xs) ≡ n = length-take-le n xs few in omega (arith, took .room)
 
   pub took-right : n < length xs → rises 0 (take n xs) ≡ true → value (e .id) < 256 ^ 8 → e .number < 256 ^ 4 →
-    rises 0 (take (n + 1) (set xs n e)) ≡ true
+      rises 0 (take (n + 1) (set xs n e)) ≡ true
   took-right l r i m =
       ap (rises 0) (take-more-set xs n e l) ∙ rises-push 0 (take n xs) e r (took .over) (entry-is-right e (took .lifetime) i m)
 
@@ -93,8 +96,30 @@ module _ (xs : List Entry) (i start end : ℕ) (h : i < length xs) where
   one-out e = one-inside ∙ rw e refl
 
   pub one-in : (leb start (value (getD xs i blank .id)) && leb (value (getD xs i blank .id)) end) ≡ true →
-    inside start end (drop i xs) ≡ inside start end (drop (i + 1) xs)
+      inside start end (drop i xs) ≡ inside start end (drop (i + 1) xs)
   one-in e = one-inside ∙ rw e refl
 
 pub all-in : (xs : List Entry) (i start end : ℕ) → length xs ≤ i → inside start end (drop i xs) ≡ true
 all-in xs i start end h = ap (inside start end) (drop-all i xs h)
+
+-- the octets of entries, one after another
+entries-push : (es : List SnpEntry) (e : SnpEntry) → entries-octets (es ++ e ∷ []) ≡ entries-octets es ++ entry-octets e
+entries-push [] e = refl
+entries-push (x ∷ es) e = ap (λ (w : List ℕ). entry-octets x ++ w) (entries-push es e)
+
+pub entries-more : (xs : List Entry) (i : ℕ) → i < length xs →
+    entries-octets (map entry-said (take i xs)) ++ entry-octets (entry-said (getD xs i blank)) ≡ entries-octets (map entry-said (take (i + 1) xs))
+entries-more xs i h =
+    sym
+    (ap (λ (es : List Entry). entries-octets (map entry-said es)) (take-more xs i blank h)
+    ∙ ap entries-octets (map-append entry-said (take i xs) (getD xs i blank ∷ []))
+    ∙ entries-push (map entry-said (take i xs)) (entry-said (getD xs i blank)))
+
+-- a tail of entries by their octets
+pub tail-is : (xs : List Entry) → 1 ≤ length xs → 9 ∷ 16 * length xs ∷ entries-octets (map entry-said xs) ≡ tail-octets (map entry-said xs)
+tail-is [] h = absurd (omega arith)
+tail-is (x ∷ xs) h = ap (λ (n : ℕ). 9 ∷ 16 * suc n ∷ entries-octets (map entry-said (x ∷ xs))) (sym (length-map xs entry-said))
+
+pub no-tail-is : (xs : List Entry) → length xs ≡ 0 → [] ≡ tail-octets (map entry-said xs)
+no-tail-is [] h = refl
+no-tail-is (x ∷ xs) h = absurd (omega arith)

@@ -40,7 +40,7 @@ kind-written (psnp m) = refl
 
 -- a written header can only be at fault by its length
 by-length : (a : Bool) (x : FrameFault) (r : Option FrameFault) → a ≡ false →
-  orOther (fails a x) (orOther None (orOther None (orOther None (orOther r None)))) ≡ r
+    orOther (fails a x) (orOther None (orOther None (orOther None (orOther r None)))) ≡ r
 by-length a x None h = rw h refl
 by-length a x (Some y) h = rw h refl
 
@@ -54,13 +54,13 @@ header-written (psnp m) =
 
 -- a buffer's size is answered rather than any fault of a written frame
 size-over : (m : Pdu) (w : Bool) (x : FrameFault) → orOther (fails w Length) (first-fault (kind-faults (kind-of (encode m)) (encode m))) ≡ Some x →
-  before frame-rank frame-place Size x ≡ true
+    before frame-rank frame-place Size x ≡ true
 size-over m true x e = let p : x ≡ Length = cc in rw p refl
 size-over m false x e =
     let f = encode m in
     let k = kind-faults (kind-of f) f in
     let b : before frame-rank frame-place Length x ≡ true =
-      foremost-over frame-rank frame-place Length k (kind-rising (kind-of f) f) x (sym (first-kind (kind-of f) f) ∙ e)
+    foremost-over frame-rank frame-place Length k (kind-rising (kind-of f) f) x (sym (first-kind (kind-of f) f) ∙ e)
     in
     before-trans frame-rank frame-place Size Length x refl b
 
@@ -69,7 +69,7 @@ size-first m None e = refl
 size-first m (Some x) e =
     let f = encode m in
     let a : orOther (fails (length-wrong f) Length) (first-fault (kind-faults (kind-of f) f)) ≡ Some x =
-      sym (first-refusal f ∙ ap (λ (o : Option FrameFault). orOther o (first-fault (kind-faults (kind-of f) f))) (header-written m)) ∙ e
+    sym (first-refusal f ∙ ap (λ (o : Option FrameFault). orOther o (first-fault (kind-faults (kind-of f) f))) (header-written m)) ∙ e
     in
     let b : before frame-rank frame-place Size x ≡ true = size-over m (length-wrong f) x a in
     rw b refl
@@ -108,16 +108,16 @@ as-reading m old e h d =
 
 -- what is written
 pub was-written : (m : Pdu) (old new : List ℕ) (n : ℕ) → 275 ≤ length old → decode (encode m) ≡ Ok m → n ≡ length (encode m) →
-  new ≡ in-front (encode m) old → Writes m old new (Ok n)
+    new ≡ in-front (encode m) old → Writes m old new (Ok n)
 was-written m old new n h d e w =
     let z : write-fault (length old) m ≡ None =
-      fault-room (length old) m h ∙ answered-ok (refusal-of m) (kind-as m) (encode m) m (as-kind m (Ok m) d) .0
+    fault-room (length old) m h ∙ answered-ok (refusal-of m) (kind-as m) (encode m) m (as-kind m (Ok m) d) .0
     in
     record { is = rw (z, e) refl; after = w; back = λ _. d }
 
 -- an LSP of numbers that fit their octets reads back, if it reads at all
 pub lsp-again : (m : LspPdu) (x : Pdu) → m .lifetime < 65536 → m .id < 256 ^ 8 → m .number < 256 ^ 4 → length (m .body) ≤ 248 →
-  decode (encode (lsp m)) ≡ Ok x → decode (encode (lsp m)) ≡ Ok (lsp m)
+    decode (encode (lsp m)) ≡ Ok x → decode (encode (lsp m)) ≡ Ok (lsp m)
 lsp-again m x ht hi hn hb d =
     let a = answered-ok (refusal-of (lsp m)) Lsp (encode (lsp m)) x (as-kind (lsp m) (Ok x) d) in
     d ∙ ap Ok (sym (a .1)) ∙ ap (λ (y : LspPdu). Ok (lsp y)) (lsp-says (encode (lsp m)) m (lays m ht hi hn hb))

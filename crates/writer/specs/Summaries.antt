@@ -1,14 +1,17 @@
 -- What summaries say.
-use Prim.Native.Nat.{ℕ}
+use Prim.Native.Nat.{ℕ, _+_, _*_}
+use mathlib.Core.Bool.{cond}
+use lib.Dec.{eqb}
 use mathlib.Core.Path.{_≡_}
 use mathlib.Core.List.{List, [], _∷_, _++_, map}
 use lib.ListN.{take}
 use Rattle.std.specs.declared.option.Option.the-variants.{Some, None}
 use Rattle.std.specs.declared.result.Result.{Result}
 use Rattle.std.specs.declared.result.Result.the-variants.{Ok, Err}
-use Rattle.octets.specs.Octets.{value}
+use Rattle.octets.specs.Octets.{value, octets}
 use Rattle.frame.specs.declared.message.Entry.{Entry}
-use Rattle.frame.specs.Messages.{SnpEntry, Pdu, csnp, psnp}
+use Rattle.frame.specs.Messages.{SnpEntry, Pdu, csnp, psnp, header}
+use Rattle.frame.specs.declared.kind.Kind.the-variants as Kind
 use Rattle.frame.specs.Meaning.{entry-said}
 use Rattle.writer.specs.declared.scope.Scope.{Scope}
 use Rattle.writer.specs.declared.scope.Scope.the-variants.{Csnp, Psnp}
@@ -40,3 +43,12 @@ Closes s start end (Ok t) =
     (range-fault (listed s) (value start) (value end) ≡ None)
     × (summary-said t ≡ said-in (Csnp start end) (value (s .source)) (map entry-said (listed s)))
 Closes s start end (Err x) = (range-fault (listed s) (value start) (value end) ≡ Some (x .fault)) × (x .summary ≡ s)
+
+-- the octets of a summary's entries, behind the header
+abbrev pub tail-size : ℕ → ℕ
+tail-size count = cond (eqb count 0) 0 (2 + 16 * count)
+
+-- the octets in front of the entries, so many standing behind the header
+abbrev pub head-octets : Scope → ℕ → ℕ → List ℕ
+head-octets (Csnp start end) source behind = header Kind.Csnp behind ++ octets 7 source ++ octets 8 (value start) ++ octets 8 (value end)
+head-octets Psnp source behind = header Kind.Psnp behind ++ octets 7 source

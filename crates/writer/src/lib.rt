@@ -1,5 +1,6 @@
 // Writing: LSPs and summaries into the caller's buffer.
 mod buffer;
+mod closes;
 mod lsps;
 mod opens;
 mod scope;

@@ -56,7 +56,9 @@ pub fn computed_check(m: &Lsp<'_>) -> CheckOctets
     ensures is { λ r. ⌜ r ≡ check-octets 13 (covered-part (lsp-said (now (m .entry)))) ⌝ }
     ensures right { λ r. ⌜ right 13 (covered-part (with-check-octets r (lsp-said (now (m .entry))))) ≡ true ⌝ }
 {
-    let head = Sums::new().over(&id_octets(m.id)).over(&number_octets(m.number));
+    let head = Sums::new()
+        .over(&id_octets(m.id))
+        .over(&number_octets(m.number));
     let all = head.over(&[0, 0, m.flags]).over(m.body);
     all.octets(m.body.len() + 2)
 }

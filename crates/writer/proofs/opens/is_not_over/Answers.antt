@@ -11,12 +11,12 @@ pub returns-then-n-gt0 : need.returns-then-n-gt0
 returns-then-n-gt0 c =
     record {
       is = ap not (c .before-then-n-gt0 .ensures) ∙ sym (not-over (c .args .listed .now) (c .args .id) (omega arith));
-      under = by-value (c .args .id) 8 (omega arith) (search needs) .1
+      under = by-value (c .args .id) 8 (omega arith) (search needs) .1;
     }
 
 pub returns-else-n-gt0 : need.returns-else-n-gt0
 returns-else-n-gt0 c =
     record {
       is = le-ltb 0 _ (omega arith) ∙ sym (none-over (c .args .listed .now) (c .args .id) (omega arith));
-      under = by-value (c .args .id) 8 (omega arith) (search needs) .1
+      under = by-value (c .args .id) 8 (omega arith) (search needs) .1;
     }

@@ -15,9 +15,16 @@ ghost-result c =
     let e = c .args .e in
     let h : entry-fault (take (s .count) (s .entries)) e ≡ None = unless-ok _ _ _ (sym (c .in-rest .ensures tt .is)) in
     let u = c .in-rest .ensures tt .under in
-    let r = took-room (s .entries) (s .count) e (omega arith) h in
-    (s .sized, (search needs, (omega (arith, r),
-    (took-right (s .entries) (s .count) e (omega arith) h (omega (arith, r)) (s .right) (u .0) (u .1), tt))))
+    let r = took-room (s .entries) (s .count) e (omega arith) h in (
+      s .sized,
+      (
+        search needs,
+        (
+          omega (arith, r),
+          (took-right (s .entries) (s .count) e (omega arith) h (omega (arith, r)) (s .right) (u .0) (u .1), tt),
+        ),
+      ),
+    )
 
 pub returns : need.returns
 returns c =
