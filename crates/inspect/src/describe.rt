@@ -47,7 +47,10 @@ fn describe_lsp(heap: Global, m: &Lsp<'_>, back: &str) -> Result<String, AllocEr
     let y = m.check.y;
     let flags = m.flags;
     let checked = if lifetime == 0 { " not checked" } else { "" };
-    let mut s = format!(heap, "LSP {id} number {number:08X} lifetime {lifetime} check {x:02X}{y:02X}{checked} flags {flags:02X}, {back}\n")?;
+    let mut s = format!(
+        heap,
+        "LSP {id} number {number:08X} lifetime {lifetime} check {x:02X}{y:02X}{checked} flags {flags:02X}, {back}\n"
+    )?;
     push_fields(heap, &mut s, m.body)?;
     Ok(s)
 }
@@ -81,7 +84,10 @@ fn describe_csnp(heap: Global, m: &Csnp<'_>, back: &str) -> Result<String, Alloc
     let start = Id(m.start);
     let end = Id(m.end);
     let count = m.entries.count();
-    let mut s = format!(heap, "CSNP source {source} from {start} to {end} entries {count}, {back}\n")?;
+    let mut s = format!(
+        heap,
+        "CSNP source {source} from {start} to {end} entries {count}, {back}\n"
+    )?;
     push_entries(heap, &mut s, &m.entries)?;
     Ok(s)
 }
@@ -111,5 +117,8 @@ fn describe_entry(heap: Global, e: &Entry) -> Result<String, AllocError> {
     let lifetime = e.lifetime;
     let x = e.check.x;
     let y = e.check.y;
-    format!(heap, "  {id} number {number:08X} lifetime {lifetime} check {x:02X}{y:02X}\n")
+    format!(
+        heap,
+        "  {id} number {number:08X} lifetime {lifetime} check {x:02X}{y:02X}\n"
+    )
 }

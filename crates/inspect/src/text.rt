@@ -10,7 +10,10 @@ pub struct Id(pub LspId);
 pub impl fmt::Display for Id as IdDisplay {
     fn fmt<W: fmt::Write>(&self, f: &mut fmt::Formatter<W>) -> fmt::Result {
         let [a, b, c, d, e, g, node, fragment] = self.0;
-        write!(f, "{a:02X}{b:02X}.{c:02X}{d:02X}.{e:02X}{g:02X}.{node:02X}-{fragment:02X}")
+        write!(
+            f,
+            "{a:02X}{b:02X}.{c:02X}{d:02X}.{e:02X}{g:02X}.{node:02X}-{fragment:02X}"
+        )
     }
 }
 

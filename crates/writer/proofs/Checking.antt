@@ -27,7 +27,7 @@ four-pieces a b c d =
     ∙ ap sums-of (append-assoc (a ++ b) c d ∙ append-assoc a b (c ++ d))
 
 pub check-pieces : (m : LspPdu) (a b : List ℕ) (s : Sums) (n : ℕ) → a ≡ octets 8 (m .id) → b ≡ octets 4 (m .number) →
-    s ≡ sums-then (sums-then (sums-then (sums-then (sums-of []) a) b) (0 ∷ 0 ∷ m .flags ∷ [])) (m .body) → n ≡ length (m .body) + 2 →
+    s ≡ sums-then (sums-then (sums-then (sums-then (sums-of []) a) b) (0 ∷ 0 ∷ m .flags ∷ [])) (m .body) → n ≡ length (covered-part m) - 13 →
     made-octets n (s .c0) (s .c1) ≡ check-octets 13 (covered-part m)
 check-pieces m a b s n p q e h =
     let f : s ≡ sums-of (octets 8 (m .id) ++ (octets 4 (m .number) ++ (0 ∷ 0 ∷ m .flags ∷ m .body))) =
@@ -36,8 +36,7 @@ check-pieces m a b s n p q e h =
     ∙ ap (λ (x : List ℕ). sums-of (x ++ (b ++ (0 ∷ 0 ∷ m .flags ∷ m .body)))) p
     ∙ ap (λ (x : List ℕ). sums-of (octets 8 (m .id) ++ (x ++ (0 ∷ 0 ∷ m .flags ∷ m .body)))) q
     in
-    let k : n ≡ length (covered-part m) - 13 = omega arith in
-    ap (λ (t : Sums). made-octets n (t .c0) (t .c1)) f ∙ ap (λ (j : ℕ). made-octets j (c0-of (unchecked 13 (covered-part m))) (c1-of (unchecked 13 (covered-part m)))) k
+    ap (λ (t : Sums). made-octets n (t .c0) (t .c1)) f ∙ ap (λ (j : ℕ). made-octets j (c0-of (unchecked 13 (covered-part m))) (c1-of (unchecked 13 (covered-part m)))) h
 
 pub check-right : (m : LspPdu) (c : CheckOctets) → c ≡ check-octets 13 (covered-part m) → right 13 (covered-part (with-check-octets c m)) ≡ true
 check-right m c e =

@@ -82,10 +82,18 @@ module _ (xs : List Entry) (n : ℕ) (e : Entry) (few : n ≤ length xs) (h : en
   pub took-room : n < 15
   took-room = let p : length (take n xs) ≡ n = length-take-le n xs few in omega (arith, took .room)
 
-  pub took-right : n < length xs → rises 0 (take n xs) ≡ true → value (e .id) < 256 ^ 8 → e .number < 256 ^ 4 →
-      rises 0 (take (n + 1) (set xs n e)) ≡ true
-  took-right l r i m =
-      ap (rises 0) (take-more-set xs n e l) ∙ rises-push 0 (take n xs) e r (took .over) (entry-is-right e (took .lifetime) i m)
+  pub took-right :
+      (ys : List Entry)
+      → ys ≡ set xs n e
+      → n < length xs
+      → rises 0 (take n xs) ≡ true
+      → value (e .id) < 256 ^ 8
+      → e .number < 256 ^ 4
+      → rises 0 (take (n + 1) ys) ≡ true
+  took-right ys w l r i m =
+      ap (λ (zs : List Entry). rises 0 (take (n + 1) zs)) w
+      ∙ ap (rises 0) (take-more-set xs n e l)
+      ∙ rises-push 0 (take n xs) e r (took .over) (entry-is-right e (took .lifetime) i m)
 
 -- the identifiers from an index on, one after another
 module _ (xs : List Entry) (i start end : ℕ) (h : i < length xs) where

@@ -1,6 +1,6 @@
 // Writing LSPs.
 ghost use mathlib.Core.Path.{_≡_};
-ghost use Prim.Native.Nat.{_+_, _≤_};
+ghost use Prim.Native.Nat.{_-_, _≤_};
 ghost use lib.ListN.{length};
 ghost use mathlib.Core.Bool.{true};
 ghost use Rattle.octets.specs.Checks.{check-octets, right};
@@ -60,5 +60,12 @@ pub fn computed_check(m: &Lsp<'_>) -> CheckOctets
         .over(&id_octets(m.id))
         .over(&number_octets(m.number));
     let all = head.over(&[0, 0, m.flags]).over(m.body);
-    all.octets(m.body.len() + 2)
+    all.octets(behind_first(m))
+}
+
+// How many covered octets stand behind the first check octet.
+fn behind_first(m: &Lsp<'_>) -> usize
+    ensures { λ r. ⌜ r ≡ length (covered-part (lsp-said (now (m .entry)))) - 13 ⌝ }
+{
+    m.body.len() + 2
 }

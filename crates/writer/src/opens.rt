@@ -4,6 +4,7 @@ ghost use mathlib.Core.Bool.{_&&_};
 ghost use mathlib.Core.List.{[], map};
 ghost use Prim.Native.Nat.{_^_, _<_};
 ghost use lib.Dec.{leb, ltb};
+ghost use lib.ListN.{set};
 ghost use Rattle.octets.specs.Octets.{value};
 ghost use Rattle.fault.specs.Order.{unless};
 ghost use Rattle.frame.specs.Meaning.{entry-said};
@@ -29,6 +30,15 @@ const BLANK: Entry = Entry {
     number: 0,
     check: CheckOctets { x: 0, y: 0 },
 };
+
+// A table of entries with this one at a place.
+fn with_entry(mut entries: [Entry; 15], place: usize, e: Entry) -> [Entry; 15]
+    requires { ⌜ place < 15 ⌝ }
+    ensures { λ r. ⌜ r ≡ set entries place e ⌝ }
+{
+    entries[place] = e;
+    entries
+}
 
 // Whether an identifier is not over the last one listed.
 fn is_not_over(listed: &[Entry], id: LspId) -> bool
@@ -77,13 +87,12 @@ impl OpenSummary {
         }
         let OpenSummary {
             source,
-            mut entries,
+            entries,
             count,
         } = self;
-        entries[count] = e;
         Ok(OpenSummary {
             source,
-            entries,
+            entries: with_entry(entries, count, e),
             count: count + 1,
         })
     }

@@ -22,6 +22,6 @@ returns c =
     (c .over-head .ensures
     ∙ ap (λ (s : Sums). sums-then s (c .number-octets .result))
     (c .over .ensures ∙ ap (λ (s : Sums). sums-then s (c .id-octets .result)) (c .new .ensures)))))
-    refl
+    (c .behind-first .ensures)
     in
     record { is = e; right = check-right m (c .octets .result) e }

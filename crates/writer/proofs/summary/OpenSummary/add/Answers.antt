@@ -1,5 +1,6 @@
 use borrow.Author.Needs.{needs}
 use mathlib.Core.Path.{_≡_, refl, sym, ap, _∙_}
+use Prim.Native.Nat.{_+_}
 use native.Mathlib.Omega.{arith}
 use lib.ListN.{take}
 use Rattle.std.specs.declared.option.Option.the-variants.{None}
@@ -21,7 +22,7 @@ ghost-result c =
         search needs,
         (
           omega (arith, r),
-          (took-right (s .entries) (s .count) e (omega arith) h (omega (arith, r)) (s .right) (u .0) (u .1), tt),
+          (took-right (s .entries) (s .count) e (omega arith) h _ (c .with-entry .ensures) (omega (arith, r)) (s .right) (u .0) (u .1), tt),
         ),
       ),
     )
@@ -32,4 +33,4 @@ returns c =
     let e = c .args .e in
     let h : entry-fault (take (s .count) (s .entries)) e ≡ None = unless-ok _ _ _ (sym (c .in-rest .ensures tt .is)) in
     let r = took-room (s .entries) (s .count) e (omega arith) h in
-    (h, refl, take-more-set (s .entries) (s .count) e (omega (arith, r)))
+    (h, refl, ap (take (s .count + 1)) (c .with-entry .ensures) ∙ take-more-set (s .entries) (s .count) e (omega (arith, r)))
