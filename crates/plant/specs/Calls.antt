@@ -100,6 +100,13 @@ count missed (suc n) = count missed n + cond (missed n) 1 0
 abbrev pub others : ℕ → ℕ → ℕ → Bool
 others n e k = ltb k n && not (eqb k e)
 
+-- a frame that may be put and that all other ends miss, so many of them
+pub record Lost (a : Air) (c e : ℕ) (f : Frame) (n : ℕ) : Type 0 where
+  pub allowed : put-refusal a c e f ≡ None
+  pub missed : ℕ → Bool
+  pub all : missed ≡ others (ends-of a c) e
+  pub counted : n ≡ count missed (ends-of a c)
+
 -- no end
 abbrev pub none : ℕ → Bool
 none k = false

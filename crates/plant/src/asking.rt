@@ -8,7 +8,7 @@ ghost use Rattle.std.specs.Orderings.{Decides};
 ghost use Rattle.std.specs.declared.option.Option.the-variants.{Some, None};
 ghost use Rattle.std.specs.declared.result.Result.the-variants.{Ok, Err};
 ghost use Rattle.plant.specs.Air.{line, ends-of, waiting, Drained, Quiet};
-ghost use Rattle.plant.specs.Calls.{waits-elsewhere, put-refusal, Refusals-right};
+ghost use Rattle.plant.specs.Calls.{waits-elsewhere, put-refusal, Lost, Refusals-right};
 use crate::Circuit;
 use crate::End;
 use crate::LONGEST;
@@ -48,14 +48,14 @@ pub fn is_blocked<P: Plant>(plant: &P, circuit: Circuit, end: End) -> bool
     false
 }
 
-// The refusal that a put would answer, or else how many ends the circuit has.
+// The refusal that a put would answer, or else how many other ends the circuit has: so many miss a frame that none gets.
 pub fn may_put<P: Plant>(
     plant: &P,
     circuit: Circuit,
     end: End,
     frame: &[u8],
 ) -> Result<usize, CallFault>
-    ensures { λ r. ⌜ elim r [ Ok n ↦ (put-refusal (air (now (plant .entry))) (circuit .0) (end .0) (now (frame .entry)) ≡ None) × (n ≡ ends-of (air (now (plant .entry))) (circuit .0)) | Err x ↦ put-refusal (air (now (plant .entry))) (circuit .0) (end .0) (now (frame .entry)) ≡ Some x ] ⌝ }
+    ensures { λ r. ⌜ elim r [ Ok n ↦ Lost (air (now (plant .entry))) (circuit .0) (end .0) (now (frame .entry)) n | Err x ↦ put-refusal (air (now (plant .entry))) (circuit .0) (end .0) (now (frame .entry)) ≡ Some x ] ⌝ }
 {
     if frame.len() < 1 || frame.len() > LONGEST {
         return Err(CallFault::Frame(FrameFault::Size));
@@ -67,7 +67,7 @@ pub fn may_put<P: Plant>(
     if is_blocked(plant, circuit, end) {
         return Err(CallFault::Waiting);
     }
-    Ok(ends)
+    Ok(ends - 1)
 }
 
 // Whether nothing waits at any end of a circuit.
