@@ -1,9 +1,10 @@
 -- The meaning of a fader: which frames fade.
-use Prim.Native.Nat.{ℕ, _+_, _/_, _%_, _^_}
+use Prim.Native.Nat.{ℕ, _+_, _/_, _%_, _^_, _<_}
 use mathlib.Core.Path.{_≡_}
+use mathlib.Core.Logic.{_≢_}
 use mathlib.Core.List.{List}
 use mathlib.Core.Bool.{Bool, true, false, _&&_}
-use lib.ListN.{getD, set}
+use lib.ListN.{getD, set, replicate}
 use lib.Dec.{eqb, ltb}
 use Rattle.std.specs.declared.option.Option.{Option}
 use Rattle.std.specs.declared.option.Option.the-variants.{None}
@@ -48,3 +49,31 @@ pub record Fader-take {P : Type 0} (over : Take-over P) (p q : P) (patterns new-
   pub below : over p q c e got
   pub same-patterns : new-patterns ≡ patterns
   pub same-count : new-accepted ≡ accepted
+
+-- a fader begun with nothing accepted has come to a plant, patterns and counts by accepted puts and takes, n of the puts on circuit c
+pub data Ran {P : Type 0} (air : P → Air) (on-put : Put-over P) (on-take : Take-over P) (patterns : List ℕ) (c : ℕ) : ℕ → P → List ℕ → List ℕ → Type 0 where
+  begun : {p : P} → Ran air on-put on-take patterns c 0 p patterns (replicate 12 0)
+  put-here :
+      {n : ℕ} {p q : P} {ps qs ns ms : List ℕ} {e : ℕ} {f : Frame} {missed : ℕ → Bool} →
+      Ran air on-put on-take patterns c n p ps ns →
+      Fader-put air on-put p q ps qs ns ms c e f missed →
+      Ran air on-put on-take patterns c (n + 1) q qs ms
+  put-elsewhere :
+      {n : ℕ} {p q : P} {ps qs ns ms : List ℕ} {d e : ℕ} {f : Frame} {missed : ℕ → Bool} →
+      d ≢ c →
+      Ran air on-put on-take patterns c n p ps ns →
+      Fader-put air on-put p q ps qs ns ms d e f missed →
+      Ran air on-put on-take patterns c n q qs ms
+  taken :
+      {n : ℕ} {p q : P} {ps qs ns ms : List ℕ} {d e : ℕ} {got : Option Frame} →
+      Ran air on-put on-take patterns c n p ps ns →
+      Fader-take on-take p q ps qs ns ms d e got →
+      Ran air on-put on-take patterns c n q qs ms
+
+-- the n-th frame that is accepted on a circuit, from 0, fades exactly where bit n modulo 64 of the circuit's pattern is set
+abbrev pub Fades-by-number : {P : Type 0} → (P → Air) → Put-over P → Take-over P → List ℕ → Type 0
+Fades-by-number {P} air on-put on-take patterns =
+    (c n : ℕ) (p : P) (ps ns : List ℕ) →
+    c < 12 →
+    Ran air on-put on-take patterns c n p ps ns →
+    fades-next ps ns c ≡ bit-of (getD patterns c 0) n

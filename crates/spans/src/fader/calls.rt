@@ -2,7 +2,7 @@ ghost use mathlib.Core.Path.{_≡_};
 ghost use mathlib.Core.Bool.{Bool, true, false};
 ghost use Prim.Native.Nat.{ℕ, _+_, _<_, _≤_};
 ghost use lib.ListN.{length, replicate};
-ghost use Rattle.spans.specs.Fades.{bit-of, one-more, fades-next, next, Fader-put, Fader-take};
+ghost use Rattle.spans.specs.Fades.{bit-of, one-more, fades-next, next, Fader-put, Fader-take, Fades-by-number};
 use super::Fader;
 use fault::CallFault;
 use plant::Circuit;
@@ -28,13 +28,33 @@ fn raised(n: u32) -> u32
 impl<P: Plant> Fader<P> {
     // A fader that has accepted nothing yet. The patterns beyond the plant's circuits are not used.
     pub fn new(below: P, patterns: [u64; 12]) -> Fader<P>
-        ensures { λ r. ⌜ (r .below ≡ below) × (r .patterns ≡ patterns) × (r .accepted ≡ replicate 12 0) ⌝ }
+        ensures made { λ r. ⌜ (r .below ≡ below) × (r .patterns ≡ patterns) × (r .accepted ≡ replicate 12 0) ⌝ }
+        ensures fades { λ _. ⌜ Fades-by-number (P·Plant .air) (P·Plant .«put_over») (P·Plant .«take_over») patterns ⌝ }
     {
         Fader {
             below,
             patterns,
             accepted: [0; 12],
         }
+    }
+
+    // The plant below, lent.
+    pub fn below(&self) -> &P
+        ensures { λ r. ⌜ now r ≡ now (self .entry) .below ⌝ }
+    {
+        &self.below
+    }
+
+    // The plant below, given back.
+    pub fn into_below(self) -> P
+        ensures { λ r. ⌜ r ≡ self .below ⌝ }
+    {
+        let Fader {
+            below,
+            patterns: _,
+            accepted: _,
+        } = self;
+        below
     }
 
     // Whether the next frame that is accepted on the circuit fades.

@@ -34,6 +34,28 @@ impl<P: Plant, Q: Plant> Pair<P, Q> {
         Ok(Pair { first, second })
     }
 
+    // The first plant, lent.
+    pub fn first(&self) -> &P
+        ensures { λ r. ⌜ now r ≡ now (self .entry) .first ⌝ }
+    {
+        &self.first
+    }
+
+    // The second plant, lent.
+    pub fn second(&self) -> &Q
+        ensures { λ r. ⌜ now r ≡ now (self .entry) .second ⌝ }
+    {
+        &self.second
+    }
+
+    // Both plants, given back.
+    pub fn into_parts(self) -> (P, Q)
+        ensures { λ r. ⌜ (r .0 ≡ self .first) × (r .1 ≡ self .second) ⌝ }
+    {
+        let Pair { first, second } = self;
+        (first, second)
+    }
+
     // Where the circuit is.
     fn side(&self, circuit: Circuit) -> Side
         ensures { λ r. ⌜ Placed (P·Plant .air (now (self .entry) .first)) (Q·Plant .air (now (self .entry) .second)) (circuit .0) r ⌝ }
