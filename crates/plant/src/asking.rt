@@ -74,8 +74,8 @@ pub fn may_put<P: Plant>(
 pub fn is_drained<P: Plant>(plant: &P, circuit: Circuit) -> bool
     ensures { λ r. ⌜ Decides r (Drained (air (now (plant .entry))) (circuit .0)) ⌝ }
 {
-    for k in 0..count_ends(plant, circuit) {
-        if is_waiting(plant, circuit, End(k)) {
+    for e in 0..count_ends(plant, circuit) {
+        if is_waiting(plant, circuit, End(e)) {
             return false;
         }
     }

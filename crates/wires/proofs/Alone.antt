@@ -5,15 +5,16 @@ use mathlib.Core.Logic.{_≢_}
 use mathlib.Core.List.{List, [], _∷_}
 use mathlib.Core.Bool.{true, false}
 use native.Mathlib.Omega.{arith}
-use lib.ListN.{length, getD, set}
+use lib.ListN.{length, getD}
 use Rattle.std.specs.declared.option.Option.{Option}
 use Rattle.std.specs.declared.option.Option.the-variants.{Some, None}
 use Rattle.std.proofs.shelf.Tests.{false≢true}
 use Rattle.plant.specs.declared.Kind.{Kind}
 use Rattle.plant.specs.Air.{Frame, Lawful, Ends-fit, line, ends-of, waiting}
-use Rattle.plant.specs.Calls.{Take, put-refusal, none}
+use Rattle.plant.specs.Calls.{put-refusal, none}
 use Rattle.plant.proofs.Blocked.{allowed}
-use Rattle.wires.specs.Wires.{alone, Delivered}
+use Rattle.wires.specs.Wires.{alone, spread, Delivered}
+use Rattle.wires.proofs.Boxes.{length-spread, spread-at, spread-here}
 
 module _ (k : Kind) (xs : List (Option Frame)) where
   pub alone-lawful :
@@ -56,11 +57,13 @@ module _ (k : Kind) (xs : List (Option Frame)) where
   alone-put ys (suc c) e f h l i t =
       let p = allowed (alone k xs) (suc c) e f h in absurd (omega (arith, p .known))
 
-  -- what waited is taken
-  pub alone-take :
-      (ys : List (Option Frame)) (c e : ℕ) →
-      e < ends-of (alone k xs) c →
-      ys ≡ set xs e None →
-      Take (alone k xs) (alone k ys) c e (waiting (alone k xs) c e)
-  alone-take ys zero e h q = record { known = h; waited = refl; after = ap (alone k) q }
-  alone-take ys (suc c) e h q = absurd (omega arith)
+  pub alone-spread :
+      (ys : List (Option Frame)) (c e : ℕ) (f : Frame) →
+      put-refusal (alone k xs) c e f ≡ None →
+      ys ≡ spread xs (length xs) e f →
+      Delivered (alone k xs) (alone k ys) c e f none
+  alone-spread ys c e f p q =
+      alone-put ys c e f p
+      (ap length q ∙ length-spread xs (length xs) e f)
+      (ap (λ zs. getD zs e None) q ∙ spread-here xs (length xs) e f)
+      (λ j l d. ap (λ zs. getD zs j None) q ∙ spread-at xs (length xs) e f j l d (omega arith))

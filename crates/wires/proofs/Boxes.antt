@@ -16,7 +16,7 @@ use Rattle.std.proofs.shelf.Tests.{eqb-false, eq-eqb, ne-eqb, cases-eq}
 use Rattle.plant.specs.Air.{Frame, ends-of, waiting}
 use Rattle.plant.specs.Calls.{waits-elsewhere}
 use Rattle.wires.specs.Held.{held}
-use Rattle.wires.specs.Wires.{spread, segment-air}
+use Rattle.wires.specs.Wires.{spread}
 use Rattle.wires.specs.declared.inbox.Inbox.{Inbox}
 use Rattle.wires.specs.declared.segment.Segment.{Segment}
 
@@ -45,8 +45,8 @@ module _ (s : Segment) where
   pub boxes-long : length (map held (s .boxes)) ≡ 8
   boxes-long = length-map (s .boxes) held ∙ s .whole
 
-  pub segment-ends : length (take (s .size) (map held (s .boxes))) ≡ s .size
-  segment-ends = length-take-le (s .size) (map held (s .boxes)) (omega (arith, boxes-long, s .few))
+  pub size-told : length (take (s .size) (map held (s .boxes))) ≡ s .size
+  size-told = length-take-le (s .size) (map held (s .boxes)) (omega (arith, boxes-long, s .few))
 
   pub segment-at : (e : ℕ) → e < s .size → getD (take (s .size) (map held (s .boxes))) e None ≡ getD (map held (s .boxes)) e None
   segment-at e h = getD-take (s .size) (map held (s .boxes)) e None h

@@ -35,8 +35,12 @@ cable-put p q c e f missed = Delivered (cable-air p) (cable-air q) c e f missed
 abbrev pub cable-take : Take-over Cable
 cable-take p q c e got = Take (cable-air p) (cable-air q) c e got
 
+-- what waits at each end of a segment
+abbrev pub segment-ends : Segment → List (Option Frame)
+segment-ends s = take (s .size) (map held (s .boxes))
+
 abbrev pub segment-air : Segment → Air
-segment-air s = alone Broadcast (take (s .size) (map held (s .boxes)))
+segment-air s = alone Broadcast (segment-ends s)
 
 abbrev pub segment-put : Put-over Segment
 segment-put p q c e f missed = Delivered (segment-air p) (segment-air q) c e f missed

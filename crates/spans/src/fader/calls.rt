@@ -119,7 +119,7 @@ pub impl<P: Plant> Plant for Fader<P> as FaderPlant {
                     self.count(circuit);
                     Ok(missed)
                 }
-                Err(refusal) => Err(refusal),
+                Err(fault) => Err(fault),
             }
         }
     }

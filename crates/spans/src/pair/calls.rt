@@ -56,6 +56,14 @@ impl<P: Plant, Q: Plant> Pair<P, Q> {
         (first, second)
     }
 
+    // How many circuits there are.
+    fn total(&self) -> usize
+        ensures { λ r. ⌜ r ≡ length (joined (P·Plant .air (now (self .entry) .first)) (Q·Plant .air (now (self .entry) .second))) ⌝ }
+    {
+        let n = self.first.circuits() + self.second.circuits();
+        if n > MOST { MOST } else { n }
+    }
+
     // Where the circuit is.
     fn side(&self, circuit: Circuit) -> Side
         ensures { λ r. ⌜ Placed (P·Plant .air (now (self .entry) .first)) (Q·Plant .air (now (self .entry) .second)) (circuit .0) r ⌝ }
@@ -79,8 +87,7 @@ pub impl<P: Plant, Q: Plant> Plant for Pair<P, Q> as PairPlant {
     ghost take_over = { λ s t c e got. Pair-take (P·Plant .air) (P·Plant .«take_over») (Q·Plant .«take_over») (s .first) (t .first) (s .second) (t .second) c e got };
 
     fn circuits(&self) -> usize {
-        let n = self.first.circuits() + self.second.circuits();
-        if n > MOST { MOST } else { n }
+        self.total()
     }
 
     fn kind(&self, circuit: Circuit) -> Result<Kind, CallFault> {

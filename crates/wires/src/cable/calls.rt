@@ -1,10 +1,15 @@
 ghost use mathlib.Core.Path.{_≡_};
 ghost use mathlib.Core.List.{[], _∷_};
+ghost use mathlib.Core.Bool.{cond};
 ghost use Prim.Native.Nat.{ℕ, _≤_};
+ghost use lib.Dec.{eqb};
+ghost use lib.ListN.{length};
+ghost use Rattle.std.specs.Options.{isSome};
 ghost use Rattle.std.specs.declared.option.Option.the-variants.{Some, None};
 ghost use Rattle.std.specs.declared.result.Result.the-variants.{Ok, Err};
 ghost use Rattle.plant.specs.declared.Kind.the-variants.{PointToPoint};
 ghost use Rattle.plant.specs.Calls.{Puts};
+ghost use Rattle.wires.specs.Held.{held};
 ghost use Rattle.wires.specs.Wires.{alone, cable-air, cable-put, cable-take};
 use super::Cable;
 use crate::inbox::Inbox;
@@ -24,6 +29,31 @@ impl Cable {
         Cable {
             first: Inbox::empty(),
             second: Inbox::empty(),
+        }
+    }
+
+    // Whether a frame waits at the other end.
+    fn is_blocked(&self, end: usize) -> bool
+        ensures { λ r. ⌜ r ≡ isSome (cond (eqb end 0) (held (now (self .entry) .second)) (held (now (self .entry) .first))) ⌝ }
+    {
+        if end == 0 {
+            self.second.waits()
+        } else {
+            self.first.waits()
+        }
+    }
+
+    // The frame then waits at the other end.
+    fn deliver(&mut self, end: usize, frame: &[u8])
+        requires some { ⌜ 1 ≤ length (now frame) ⌝ }
+        requires few { ⌜ length (now frame) ≤ 275 ⌝ }
+        ensures first { λ _. ⌜ held (now (self .exit) .first) ≡ cond (eqb end 0) (held (now (self .entry) .first)) (Some (now (frame .entry))) ⌝ }
+        ensures second { λ _. ⌜ held (now (self .exit) .second) ≡ cond (eqb end 0) (Some (now (frame .entry))) (held (now (self .entry) .second)) ⌝ }
+    {
+        if end == 0 {
+            self.second.fill(frame);
+        } else {
+            self.first.fill(frame);
         }
     }
 }
@@ -74,17 +104,10 @@ pub impl Plant for Cable as CablePlant {
         if circuit.0 > 0 || end.0 > 1 {
             return Err(CallFault::Unknown);
         }
-        if end.0 == 0 {
-            if self.second.waits() {
-                return Err(CallFault::Waiting);
-            }
-            self.second.fill(frame);
-        } else {
-            if self.first.waits() {
-                return Err(CallFault::Waiting);
-            }
-            self.first.fill(frame);
+        if self.is_blocked(end.0) {
+            return Err(CallFault::Waiting);
         }
+        self.deliver(end.0, frame);
         Ok(0)
     }
 

@@ -58,9 +58,9 @@ pub(crate) fn fill_others(boxes: &mut [Inbox; 8], n: usize, e: usize, frame: &[u
     ensures len { λ _. ⌜ length (now (boxes .exit)) ≡ 8 ⌝ }
     ensures after { λ _. ⌜ map held (now (boxes .exit)) ≡ spread (map held (now (boxes .entry))) n e (now (frame .entry)) ⌝ }
 {
-    for k in 0..n {
-        if k != e {
-            fill_in(boxes, k, frame);
+    for j in 0..n {
+        if j != e {
+            fill_in(boxes, j, frame);
         }
     }
 }

@@ -10,6 +10,6 @@ pub returns : need.returns
 returns g c =
     let a = g .P·Plant .air (c .args .plant .now) in
     let n = c .args .circuit .0 in (
-      λ _ k. ⊎-elim (λ l. c .loop-k .inv k (omega arith)) (λ l. no-end a n k l) (cases-lt k (ends-of a n)),
+      λ _ k. ⊎-elim (λ l. c .loop-e .inv k (omega arith)) (λ l. no-end a n k l) (cases-lt k (ends-of a n)),
       λ _. refl,
     )

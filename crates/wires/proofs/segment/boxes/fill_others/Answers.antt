@@ -5,19 +5,19 @@ use Rattle.std.specs.declared.option.Option.the-variants.{Some}
 use Rattle.wires.specs.Held.{held}
 use Rattle.wires.proofs.Boxes.{spread-own, spread-more}
 use Rattle.wires.proofs.segment.boxes.fill_others.Needs as need
-use Rattle.wires.proofs.segment.boxes.fill_others.Needs.{then-k-e, else-k-e}
+use Rattle.wires.proofs.segment.boxes.fill_others.Needs.{then-j-e, else-j-e}
 
-pub loop-k-again : need.loop-k-again
-loop-k-again c =
-    let k = c .loop-k .k in
+pub loop-j-again : need.loop-j-again
+loop-j-again c =
+    let k = c .loop-j .j in
     let xs = map held (c .args .boxes .now) in
     let f = c .args .frame .now in (
-      c .if-k-e .array-long,
-      elim (c .if-k-e .came) [
-        | then-k-e w ↦
+      c .if-j-e .array-long,
+      elim (c .if-j-e .came) [
+        | then-j-e w ↦
             ap (map held) (w .boxes-is)
             ∙ (w .fill-in .ensures
-            ∙ (ap (λ x. set x k (Some f)) (c .loop-k .inv .1) ∙ sym (spread-more xs k (c .args .e) f (w .if-k-e .taken))))
-        | else-k-e w ↦ ap (map held) (w .boxes-is) ∙ (c .loop-k .inv .1 ∙ sym (spread-own xs k (c .args .e) f (w .if-k-e .left)))
+            ∙ (ap (λ x. set x k (Some f)) (c .loop-j .inv .1) ∙ sym (spread-more xs k (c .args .e) f (w .if-j-e .taken))))
+        | else-j-e w ↦ ap (map held) (w .boxes-is) ∙ (c .loop-j .inv .1 ∙ sym (spread-own xs k (c .args .e) f (w .if-j-e .left)))
       ],
     )

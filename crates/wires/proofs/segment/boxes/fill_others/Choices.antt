@@ -5,6 +5,6 @@ use Rattle.wires.specs.Held.{held}
 use Rattle.wires.specs.Wires.{spread}
 use Rattle.wires.proofs.segment.boxes.fill_others.Given as given
 
-abbrev pub Inv-loop-k : given.InvT-loop-k
-Inv-loop-k l =
-    (length (l .boxes) ≡ 8) × (map held (l .boxes) ≡ spread (map held (l .entry .boxes)) (l .k) (l .e) (l .frame))
+abbrev pub Inv-loop-j : given.InvT-loop-j
+Inv-loop-j l =
+    (length (l .boxes) ≡ 8) × (map held (l .boxes) ≡ spread (map held (l .entry .boxes)) (l .j) (l .e) (l .frame))

@@ -1,6 +1,6 @@
 use native.Mathlib.Omega.{arith}
 use Rattle.spans.proofs.Joined.{length-joined, joined-circuits}
-use Rattle.spans.proofs.pair.calls.PairPlant.circuits.Needs as need
+use Rattle.spans.proofs.pair.Pair.total.Needs as need
 
 pub returns-then-n-gt-MOST : need.returns-then-n-gt-MOST
 returns-then-n-gt-MOST g c =
