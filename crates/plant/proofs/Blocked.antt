@@ -193,3 +193,16 @@ all-missed a c e f h =
           idle-at (line a c .ends) e (ends-of a c) k (p .free) l d ∙ sym (cond-true (others (ends-of a c) e k) None (Some f) t);
       only = others-only (ends-of a c) e;
     }
+
+-- where a put answers 0 none missed
+pub none-missed : (missed : ℕ → Bool) (n : ℕ) → count missed n ≡ 0 → (k : ℕ) → k < n → missed k ≡ false
+none-missed missed zero h k l = absurd (omega arith)
+none-missed missed (suc n) h k l =
+    ⊎-elim
+    (λ (q : k ≡ n). ap missed q ∙ last (missed n) (omega arith))
+    (λ (q : k ≡ n → ⊥). none-missed missed n (omega arith) k (omega arith))
+    (cases-eq k n)
+  where
+    last : (b : Bool) → _≡_ {A = ℕ} (cond b 1 0) 0 → b ≡ false
+    last true e = absurd (omega arith)
+    last false e = refl

@@ -18,7 +18,7 @@ use Rattle.fault.specs.declared.CallFault.the-variants.{Unknown, Waiting}
 use Rattle.fault.specs.declared.CallFault.the-variants as refusal
 use Rattle.fault.specs.Order.{fails, first-refusal}
 use Rattle.plant.specs.declared.Kind.{Kind}
-use Rattle.plant.specs.Air.{Air, Frame, Line, line, ends-of, waiting, shape}
+use Rattle.plant.specs.Air.{Air, Frame, Line, line, ends-of, waiting, shape, Drained}
 
 -- the questions, refused where there is no such circuit or end
 abbrev pub kind-answer : Air → ℕ → Result Kind CallFault
@@ -149,3 +149,9 @@ pub record Moved {P : Type 0} (air : P → Air) (over : Take-over P) (p q : P) (
 abbrev pub Takes : {P : Type 0} → (P → Air) → Take-over P → P → P → ℕ → ℕ → List ℕ → List ℕ → Result (Option ℕ) CallFault → Type 0
 Takes air over p q c e was now (Ok r) = Moved air over p q c e was now r
 Takes air over p q c e was now (Err x) = (take-refusal (air p) c e (length was) ≡ Some x) × (q ≡ p) × (now ≡ was)
+
+-- a circuit is drained, and no other changes
+pub record Drains (a b : Air) (c : ℕ) : Type 0 where
+  pub drained : Drained b c
+  pub alike : shape b ≡ shape a
+  pub elsewhere : (d : ℕ) → d ≢ c → line b d ≡ line a d

@@ -8,7 +8,7 @@ ghost use Rattle.std.specs.Orderings.{Decides};
 ghost use Rattle.std.specs.declared.option.Option.the-variants.{Some, None};
 ghost use Rattle.std.specs.declared.result.Result.the-variants.{Ok, Err};
 ghost use Rattle.plant.specs.Air.{line, ends-of, waiting, Drained, Quiet};
-ghost use Rattle.plant.specs.Calls.{waits-elsewhere, put-refusal, Lost, Refusals-right};
+ghost use Rattle.plant.specs.Calls.{waits-elsewhere, put-refusal, Lost, Drains, Refusals-right};
 use crate::Circuit;
 use crate::End;
 use crate::LONGEST;
@@ -92,6 +92,16 @@ pub fn is_quiet<P: Plant>(plant: &P) -> bool
         }
     }
     true
+}
+
+// Has every end of a circuit take, and lets go what was taken: nothing waits there then, and no other circuit changes.
+pub fn drain<P: Plant>(plant: &mut P, circuit: Circuit)
+    ensures { λ _. ⌜ Drains (air (now (plant .entry))) (air (now (plant .exit))) (circuit .0) ⌝ }
+{
+    for n in 0..count_ends(plant, circuit) {
+        let mut buffer = [0; LONGEST];
+        let _ = plant.take(circuit, End(n), &mut buffer);
+    }
 }
 
 // Nothing is done: what is ensured is that the refusals of put and take are each the first of their causes.

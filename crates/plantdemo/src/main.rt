@@ -56,12 +56,7 @@ fn put<P: Plant>(
 }
 
 // Has an end take, and prints what it got.
-fn take<P: Plant>(
-    rt: &LibcRuntime,
-    plant: &mut P,
-    circuit: usize,
-    end: usize,
-) -> io::Result<()> {
+fn take<P: Plant>(rt: &LibcRuntime, plant: &mut P, circuit: usize, end: usize) -> io::Result<()> {
     let mut buffer = [0; LONGEST];
     let got = match plant.take(Circuit(circuit), End(end), &mut buffer) {
         Ok(got) => got,

@@ -119,14 +119,8 @@ pub impl<P: Plant, Q: Plant> Plant for Pair<P, Q> as PairPlant {
             return Err(CallFault::Frame(FrameFault::Size));
         }
         match self.side(circuit) {
-            Side::First => match self.first.put(circuit, end, frame) {
-                Ok(missed) => Ok(missed),
-                Err(refusal) => Err(refusal),
-            },
-            Side::Second(c) => match self.second.put(c, end, frame) {
-                Ok(missed) => Ok(missed),
-                Err(refusal) => Err(refusal),
-            },
+            Side::First => self.first.put(circuit, end, frame),
+            Side::Second(c) => self.second.put(c, end, frame),
             Side::Neither => Err(CallFault::Unknown),
         }
     }
