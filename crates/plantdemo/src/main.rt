@@ -28,15 +28,23 @@ fn span() -> Result<Fader<Pair<Cable, Segment>>, CallFault> {
     }
 }
 
-// Prints the first n octets.
-fn print_octets(rt: &LibcRuntime, octets: &[u8], n: usize) -> io::Result<()> {
+// Prints what an end does with some octets.
+fn tell(
+    rt: &LibcRuntime,
+    circuit: usize,
+    end: usize,
+    word: &str,
+    octets: &[u8],
+    n: usize,
+) -> io::Result<()> {
+    print!(rt, "circuit {circuit} end {end} {word}")?;
     for octet in octets.iter().take(n) {
         print!(rt, " {octet:02X}")?;
     }
     Ok(())
 }
 
-// Puts a frame, and prints how many ends missed it.
+// Puts a frame, and prints how many ends missed it or why it is refused.
 fn put<P: Plant>(
     rt: &LibcRuntime,
     plant: &mut P,
@@ -44,33 +52,29 @@ fn put<P: Plant>(
     end: usize,
     frame: &[u8],
 ) -> io::Result<()> {
-    print!(rt, "circuit {circuit} end {end} puts")?;
-    print_octets(rt, frame, frame.len())?;
-    match plant.put(Circuit(circuit), End(end), frame) {
-        Ok(missed) => println!(rt, ": {missed} missed"),
-        Err(fault) => {
-            let number = fault.number();
-            println!(rt, ": refused {number}")
-        }
-    }
+    tell(rt, circuit, end, "puts", frame, frame.len())?;
+    let (word, number) = match plant.put(Circuit(circuit), End(end), frame) {
+        Ok(missed) => ("missed", missed),
+        Err(fault) => ("refused", usize::from(fault.number())),
+    };
+    println!(rt, ": {word} {number}")
 }
 
 // Has an end take, and prints what it got.
-fn take<P: Plant>(rt: &LibcRuntime, plant: &mut P, circuit: usize, end: usize) -> io::Result<()> {
+fn take<P: Plant>(
+    rt: &LibcRuntime,
+    plant: &mut P,
+    circuit: usize,
+    end: usize,
+) -> io::Result<()> {
     let mut buffer = [0; LONGEST];
-    let got = match plant.take(Circuit(circuit), End(end), &mut buffer) {
-        Ok(got) => got,
-        Err(fault) => {
-            let number = fault.number();
-            return println!(rt, "circuit {circuit} end {end}: refused {number}");
-        }
+    let (word, n) = match plant.take(Circuit(circuit), End(end), &mut buffer) {
+        Ok(Some(n)) => ("got", n),
+        Ok(None) => ("got nothing", 0),
+        Err(_) => ("is not there", 0),
     };
-    let Some(n) = got else {
-        return println!(rt, "circuit {circuit} end {end} got nothing");
-    };
-    print!(rt, "circuit {circuit} end {end} got")?;
-    print_octets(rt, &buffer, n)?;
-    println!(rt)
+    tell(rt, circuit, end, word, &buffer, n)?;
+    rt.println("")
 }
 
 // Has every end of a circuit take.
@@ -93,11 +97,8 @@ fn run<P: Plant>(rt: &LibcRuntime, plant: &mut P) -> io::Result<()> {
     drain(rt, plant, 1)?;
     put(rt, plant, 2, 0, &[0x83, 0x07])?;
     take(rt, plant, 1, 3)?;
-    if is_quiet(plant) {
-        println!(rt, "nothing waits")
-    } else {
-        println!(rt, "a frame waits")
-    }
+    let quiet = is_quiet(plant);
+    rt.println(if quiet { "nothing waits" } else { "a frame waits" })
 }
 
 fn main(rt: LibcRuntime) -> io::Result<()> {
@@ -106,9 +107,6 @@ fn main(rt: LibcRuntime) -> io::Result<()> {
             let mut plant = plant;
             run(&rt, &mut plant)
         }
-        Err(fault) => {
-            let number = fault.number();
-            println!(rt, "refused {number}")
-        }
+        Err(_) => rt.println("no plant"),
     }
 }

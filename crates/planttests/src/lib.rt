@@ -6,7 +6,6 @@ mod tests {
     use plant::Circuit;
     use plant::End;
     use plant::Kind;
-    use plant::KindDebug;
     use plant::KindPartialEq;
     use plant::Plant;
     use plant::asking::drain;
@@ -53,11 +52,8 @@ mod tests {
         for (circuit, end, length, refusal, missed) in table.iter().copied() {
             check(length <= 276)?;
             match plant.put(Circuit(circuit), End(end), &octets[0..length]) {
-                Ok(n) => {
-                    check_eq(refusal, 0)?;
-                    check_eq(n, missed)?;
-                }
-                Err(fault) => check_eq(fault.number(), refusal)?,
+                Ok(n) => check(refusal == 0 && n == missed)?,
+                Err(fault) => check(refusal == fault.number())?,
             }
         }
         Ok(())
@@ -72,15 +68,11 @@ mod tests {
             let mut buffer = [5; 275];
             check(room <= 275)?;
             match plant.take(Circuit(circuit), End(end), &mut buffer[0..room]) {
-                Ok(got) => {
-                    check_eq(refusal, 0)?;
-                    check_eq(got.unwrap_or(0), length)?;
-                }
-                Err(fault) => check_eq(fault.number(), refusal)?,
+                Ok(got) => check(refusal == 0 && got.unwrap_or(0) == length)?,
+                Err(fault) => check(refusal == fault.number())?,
             }
-            check_eq(buffer[0] == 9, length > 0)?;
-            check_eq(buffer[1] == 9, length > 1)?;
-            check_eq(buffer[274] == 9, length > 274)?;
+            check((buffer[0] == 9) == (length > 0) && (buffer[1] == 9) == (length > 1))?;
+            check((buffer[274] == 9) == (length > 274))?;
         }
         Ok(())
     }
@@ -88,7 +80,7 @@ mod tests {
     // Whether a frame waits at each of the first ends of a circuit.
     fn waiting<P: Plant>(plant: &P, circuit: usize, table: &[bool]) -> Result<(), Fail> {
         for (end, waits) in table.iter().copied().enumerate() {
-            check_eq(plant.waits(Circuit(circuit), End(end))?, waits)?;
+            check(plant.waits(Circuit(circuit), End(end))? == waits)?;
         }
         Ok(())
     }
@@ -113,7 +105,7 @@ mod tests {
     // By a table of a frame's number and how many miss it.
     fn fades(pattern: u64, table: &[(usize, usize)]) -> Result<(), Fail> {
         for (n, missed) in table.iter().copied() {
-            check_eq(missed_at(pattern, n)?, missed)?;
+            check(missed_at(pattern, n)? == missed)?;
         }
         Ok(())
     }
@@ -191,8 +183,8 @@ mod tests {
     fn segments_have_2_to_8_ends() -> Result<(), Fail> {
         for (n, refusal) in [(0, 8), (1, 8), (2, 0), (8, 0), (9, 8)] {
             match Segment::new(n) {
-                Ok(segment) => check_eq(segment.ends(Circuit(0))?, n)?,
-                Err(fault) => check_eq(fault.number(), refusal)?,
+                Ok(segment) => check(segment.ends(Circuit(0))? == n)?,
+                Err(fault) => check(fault.number() == refusal)?,
             }
         }
         Ok(())
@@ -206,8 +198,8 @@ mod tests {
         let line = Kind::PointToPoint;
         let shared = Kind::Broadcast;
         for (c, kind, ends) in [(0, line, 2), (1, shared, 3), (2, shared, 8), (3, line, 2)] {
-            check_eq(plant.kind(Circuit(c))?, kind)?;
-            check_eq(plant.ends(Circuit(c))?, ends)?;
+            check(plant.kind(Circuit(c))? == kind)?;
+            check(plant.ends(Circuit(c))? == ends)?;
             puts(
                 &mut plant,
                 &[
@@ -233,14 +225,14 @@ mod tests {
     #[test]
     fn plants_have_at_most_12_circuits() -> Result<(), Fail> {
         let mut twelve = pair(pair(four()?, four()?)?, four()?)?;
-        check_eq(twelve.circuits(), 12)?;
+        check(twelve.circuits() == 12)?;
         puts(&mut twelve, &[(11, 0, 1, 0, 0), (12, 0, 1, 8, 0)])?;
         match Pair::new(twelve, Cable::new()) {
             Ok(_) => Err(Fail::new("13 circuits")),
             Err(back) => {
-                check_eq(back.refusal.number(), 11)?;
+                check(back.refusal.number() == 11)?;
                 waiting(&back.first, 11, &[false, true])?;
-                check_eq(back.second.circuits(), 1)
+                check(back.second.circuits() == 1)
             }
         }
     }
