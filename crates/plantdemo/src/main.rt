@@ -85,17 +85,24 @@ fn drain<P: Plant>(rt: &LibcRuntime, plant: &mut P, circuit: usize) -> io::Resul
     Ok(())
 }
 
+// Circuit, end and last octet of each frame that is put, and whether the circuit's ends take then.
+const PUTS: [(usize, usize, u8, bool); 7] = [
+    (0, 0, 1, false),
+    (0, 0, 2, true),
+    (0, 0, 3, false),
+    (0, 1, 4, true),
+    (1, 2, 5, false),
+    (1, 2, 6, true),
+    (2, 0, 7, false),
+];
+
 fn run<P: Plant>(rt: &LibcRuntime, plant: &mut P) -> io::Result<()> {
-    put(rt, plant, 0, 0, &[0x83, 0x01])?;
-    put(rt, plant, 0, 0, &[0x83, 0x02])?;
-    drain(rt, plant, 0)?;
-    put(rt, plant, 0, 0, &[0x83, 0x03])?;
-    put(rt, plant, 0, 1, &[0x83, 0x04])?;
-    drain(rt, plant, 0)?;
-    put(rt, plant, 1, 2, &[0x83, 0x05])?;
-    put(rt, plant, 1, 2, &[0x83, 0x06])?;
-    drain(rt, plant, 1)?;
-    put(rt, plant, 2, 0, &[0x83, 0x07])?;
+    for (circuit, end, octet, all_take) in PUTS {
+        put(rt, plant, circuit, end, &[0x83, octet])?;
+        if all_take {
+            drain(rt, plant, circuit)?;
+        }
+    }
     take(rt, plant, 1, 3)?;
     let quiet = is_quiet(plant);
     rt.println(if quiet { "nothing waits" } else { "a frame waits" })
