@@ -1,0 +1,4 @@
+pub mod Lines
+pub mod Blocked
+pub mod Examples
+pub mod Drained

@@ -1,0 +1,2 @@
+pub mod Air
+pub mod Calls
