@@ -182,6 +182,20 @@ mod tests {
         Ok(())
     }
 
+    // The kind and the number of ends of each circuit, by a table, and a put on each.
+    fn numbered<P: Plant>(plant: &mut P, table: &[(Kind, usize)]) -> Result<(), Fail> {
+        check(plant.circuits() == table.len())?;
+        for (c, (kind, ends)) in table.iter().copied().enumerate() {
+            check(plant.kind(Circuit(c))? == kind && plant.ends(Circuit(c))? == ends)?;
+            puts(plant, &[(c, 1, 1, 0, 0), (c, 1, 2, 18, 0)])?;
+            waiting(plant, c, &[true, false])?;
+        }
+        puts(
+            plant,
+            &[(table.len(), 1, 1, 8, 0), (table.len(), 1, 0, 4, 0)],
+        )
+    }
+
     #[test]
     fn pairs_of_pairs_number_on() -> Result<(), Fail> {
         let left = pair(Cable::new(), Segment::new(3)?)?;
@@ -189,38 +203,32 @@ mod tests {
         let mut plant = pair(left, right)?;
         let line = Kind::PointToPoint;
         let shared = Kind::Broadcast;
-        for (c, kind, ends) in [(0, line, 2), (1, shared, 3), (2, shared, 8), (3, line, 2)] {
-            check(plant.kind(Circuit(c))? == kind)?;
-            check(plant.ends(Circuit(c))? == ends)?;
-            puts(
-                &mut plant,
-                &[
-                    (c, 1, 1, 0, 0),
-                    (c, 1, 2, 18, 0),
-                    (4, 1, 1, 8, 0),
-                    (4, 1, 0, 4, 0),
-                ],
-            )?;
-            waiting(&plant, c, &[true, false])?;
-        }
+        numbered(
+            &mut plant,
+            &[(line, 2), (shared, 3), (shared, 8), (line, 2)],
+        )?;
         takes(
             &mut plant,
             &[(2, 7, 0, 1), (3, 0, 0, 1), (3, 1, 0, 0), (2, 8, 8, 0)],
         )
     }
 
-    #[test]
-    fn plants_have_at_most_12_circuits() -> Result<(), Fail> {
-        let mut twelve = pair(pair(four()?, four()?)?, four()?)?;
+    // That a plant of 12 circuits cannot be joined to another, and both come back as they were.
+    fn is_full<P: Plant + Drop>(plant: P) -> Result<(), Fail> {
+        let mut twelve = plant;
         check(twelve.circuits() == 12)?;
         puts(&mut twelve, &[(11, 0, 1, 0, 0), (12, 0, 1, 8, 0)])?;
         match Pair::new(twelve, Cable::new()) {
             Ok(_) => Err(Fail::new("13 circuits")),
             Err(back) => {
-                check(back.refusal.number() == 11)?;
-                waiting(&back.first, 11, &[false, true])?;
-                check(back.second.circuits() == 1)
+                check(back.refusal.number() == 11 && back.second.circuits() == 1)?;
+                waiting(&back.first, 11, &[false, true])
             }
         }
+    }
+
+    #[test]
+    fn plants_have_at_most_12_circuits() -> Result<(), Fail> {
+        is_full(pair(pair(four()?, four()?)?, four()?)?)
     }
 }
