@@ -61,12 +61,7 @@ fn put<P: Plant>(
 }
 
 // Has an end take, and prints what it got.
-fn take<P: Plant>(
-    rt: &LibcRuntime,
-    plant: &mut P,
-    circuit: usize,
-    end: usize,
-) -> io::Result<()> {
+fn take<P: Plant>(rt: &LibcRuntime, plant: &mut P, circuit: usize, end: usize) -> io::Result<()> {
     let mut buffer = [0; LONGEST];
     let (word, n) = match plant.take(Circuit(circuit), End(end), &mut buffer) {
         Ok(Some(n)) => ("got", n),
@@ -105,7 +100,11 @@ fn run<P: Plant>(rt: &LibcRuntime, plant: &mut P) -> io::Result<()> {
     }
     take(rt, plant, 1, 3)?;
     let quiet = is_quiet(plant);
-    rt.println(if quiet { "nothing waits" } else { "a frame waits" })
+    rt.println(if quiet {
+        "nothing waits"
+    } else {
+        "a frame waits"
+    })
 }
 
 fn main(rt: LibcRuntime) -> io::Result<()> {

@@ -59,20 +59,14 @@ mod tests {
         Ok(())
     }
 
-    // Takes by a table: circuit, end, octets of the buffer, the refusal's number or 0, and the length taken, 0 for none.
-    fn takes<P: Plant>(
-        plant: &mut P,
-        table: &[(usize, usize, usize, u8, usize)],
-    ) -> Result<(), Fail> {
-        for (circuit, end, room, refusal, length) in table.iter().copied() {
+    // Takes by a table: circuit, end, the refusal's number or 0, and the length taken, 0 for none.
+    fn takes<P: Plant>(plant: &mut P, table: &[(usize, usize, u8, usize)]) -> Result<(), Fail> {
+        for (circuit, end, refusal, length) in table.iter().copied() {
             let mut buffer = [5; 275];
-            check(room <= 275)?;
-            match plant.take(Circuit(circuit), End(end), &mut buffer[0..room]) {
+            match plant.take(Circuit(circuit), End(end), &mut buffer) {
                 Ok(got) => check(refusal == 0 && got.unwrap_or(0) == length)?,
                 Err(fault) => check(refusal == fault.number())?,
             }
-            check((buffer[0] == 9) == (length > 0) && (buffer[1] == 9) == (length > 1))?;
-            check((buffer[274] == 9) == (length > 274))?;
         }
         Ok(())
     }
@@ -85,16 +79,11 @@ mod tests {
         Ok(())
     }
 
-    // A fader over a cable.
-    fn faded(pattern: u64) -> Fader<Cable> {
-        let mut patterns = [0; 12];
-        patterns[0] = pattern;
-        Fader::new(Cable::new(), patterns)
-    }
-
     // How many ends of a cable miss the frame of number n under a pattern.
     fn missed_at(pattern: u64, n: usize) -> Result<usize, CallFault> {
-        let mut fader = faded(pattern);
+        let mut patterns = [0; 12];
+        patterns[0] = pattern;
+        let mut fader = Fader::new(Cable::new(), patterns);
         for _ in 0..n {
             let _ = fader.put(Circuit(0), End(0), &[7])?;
             drain(&mut fader, Circuit(0));
@@ -119,64 +108,67 @@ mod tests {
     }
 
     #[test]
-    fn refused_puts_are_not_counted() -> Result<(), Fail> {
-        let mut fader = faded(2);
-        puts(
-            &mut fader,
-            &[
-                (0, 0, 1, 0, 0),
-                (0, 0, 1, 18, 0),
-                (0, 0, 0, 4, 0),
-                (1, 0, 1, 8, 0),
-                (0, 1, 1, 0, 1),
-            ],
-        )?;
-        waiting(&fader, 0, &[false, true])
-    }
-
-    #[test]
-    fn faded_frames_reach_nothing() -> Result<(), Fail> {
+    fn faded_frames_reach_nothing_and_refused_ones_are_not_counted() -> Result<(), Fail> {
         let mut patterns = [0; 12];
-        patterns[0] = 1;
+        patterns[0] = 5;
         let mut fader = Fader::new(Segment::new(8)?, patterns);
         puts(&mut fader, &[(0, 3, 1, 0, 7)])?;
         check(is_quiet(fader.below()))?;
-        puts(&mut fader, &[(0, 3, 1, 0, 0)])?;
+        puts(
+            &mut fader,
+            &[
+                (0, 3, 0, 4, 0),
+                (0, 8, 1, 8, 0),
+                (0, 3, 1, 0, 0),
+                (0, 3, 1, 18, 0),
+                (0, 3, 1, 18, 0),
+            ],
+        )?;
         waiting(
             &fader,
             0,
             &[true, true, true, false, true, true, true, true],
-        )
+        )?;
+        drain(&mut fader, Circuit(0));
+        puts(&mut fader, &[(0, 0, 1, 0, 7), (0, 0, 1, 0, 0)])
     }
 
     #[test]
-    fn sizes_of_frames_and_buffers() -> Result<(), Fail> {
-        let put = [
-            (0, 0, 0, 4, 0),
-            (0, 0, 276, 4, 0),
-            (9, 9, 276, 4, 0),
-            (0, 9, 1, 8, 0),
-            (0, 0, 275, 0, 0),
-            (0, 0, 1, 18, 0),
-            (0, 1, 1, 0, 0),
-        ];
-        let take = [
-            (0, 1, 274, 4, 0),
-            (9, 1, 274, 4, 0),
-            (9, 1, 275, 8, 0),
-            (0, 1, 275, 0, 275),
-            (0, 1, 275, 0, 0),
-            (0, 0, 275, 0, 1),
-        ];
+    fn sizes_of_frames() -> Result<(), Fail> {
+        let mut plant = pair(Cable::new(), Segment::new(2)?)?;
+        for c in 0..2 {
+            puts(
+                &mut plant,
+                &[
+                    (c, 0, 0, 4, 0),
+                    (c, 0, 276, 4, 0),
+                    (9, 9, 276, 4, 0),
+                    (c, 2, 1, 8, 0),
+                    (c, 0, 275, 0, 0),
+                    (c, 0, 1, 18, 0),
+                    (c, 1, 1, 0, 0),
+                ],
+            )?;
+            takes(
+                &mut plant,
+                &[(9, 1, 8, 0), (c, 1, 0, 275), (c, 1, 0, 0), (c, 0, 0, 1)],
+            )?;
+        }
+        Ok(())
+    }
+
+    #[test]
+    fn sizes_of_buffers() -> Result<(), Fail> {
         let mut cable = Cable::new();
-        puts(&mut cable, &put)?;
-        takes(&mut cable, &take)?;
-        let mut segment = Segment::new(2)?;
-        puts(&mut segment, &put)?;
-        takes(&mut segment, &take)?;
-        let mut pair = pair(cable, segment)?;
-        puts(&mut pair, &put)?;
-        takes(&mut pair, &take)
+        let mut small = [5; 274];
+        let mut buffer = [5; 275];
+        let _ = cable.put(Circuit(0), End(0), &[1, 2])?;
+        match cable.take(Circuit(9), End(1), &mut small) {
+            Ok(_) => return Err(Fail::new("a buffer of 274 octets")),
+            Err(fault) => check(fault.number() == 4)?,
+        }
+        check(cable.take(Circuit(0), End(1), &mut buffer)?.unwrap_or(0) == 2)?;
+        check(buffer[0] == 1 && buffer[1] == 2 && buffer[2] == 5 && buffer[274] == 5)
     }
 
     #[test]
@@ -190,6 +182,20 @@ mod tests {
         Ok(())
     }
 
+    // The kind and the number of ends of each circuit, by a table, and a put on each.
+    fn numbered<P: Plant>(plant: &mut P, table: &[(Kind, usize)]) -> Result<(), Fail> {
+        check(plant.circuits() == table.len())?;
+        for (c, (kind, ends)) in table.iter().copied().enumerate() {
+            check(plant.kind(Circuit(c))? == kind && plant.ends(Circuit(c))? == ends)?;
+            puts(plant, &[(c, 1, 1, 0, 0), (c, 1, 2, 18, 0)])?;
+            waiting(plant, c, &[true, false])?;
+        }
+        puts(
+            plant,
+            &[(table.len(), 1, 1, 8, 0), (table.len(), 1, 0, 4, 0)],
+        )
+    }
+
     #[test]
     fn pairs_of_pairs_number_on() -> Result<(), Fail> {
         let left = pair(Cable::new(), Segment::new(3)?)?;
@@ -197,43 +203,32 @@ mod tests {
         let mut plant = pair(left, right)?;
         let line = Kind::PointToPoint;
         let shared = Kind::Broadcast;
-        for (c, kind, ends) in [(0, line, 2), (1, shared, 3), (2, shared, 8), (3, line, 2)] {
-            check(plant.kind(Circuit(c))? == kind)?;
-            check(plant.ends(Circuit(c))? == ends)?;
-            puts(
-                &mut plant,
-                &[
-                    (c, 1, 1, 0, 0),
-                    (c, 1, 2, 18, 0),
-                    (4, 1, 1, 8, 0),
-                    (4, 1, 0, 4, 0),
-                ],
-            )?;
-            waiting(&plant, c, &[true, false])?;
-        }
+        numbered(
+            &mut plant,
+            &[(line, 2), (shared, 3), (shared, 8), (line, 2)],
+        )?;
         takes(
             &mut plant,
-            &[
-                (2, 7, 275, 0, 1),
-                (3, 0, 275, 0, 1),
-                (3, 1, 275, 0, 0),
-                (2, 8, 275, 8, 0),
-            ],
+            &[(2, 7, 0, 1), (3, 0, 0, 1), (3, 1, 0, 0), (2, 8, 8, 0)],
         )
     }
 
-    #[test]
-    fn plants_have_at_most_12_circuits() -> Result<(), Fail> {
-        let mut twelve = pair(pair(four()?, four()?)?, four()?)?;
+    // That a plant of 12 circuits cannot be joined to another, and both come back as they were.
+    fn is_full<P: Plant + Drop>(plant: P) -> Result<(), Fail> {
+        let mut twelve = plant;
         check(twelve.circuits() == 12)?;
         puts(&mut twelve, &[(11, 0, 1, 0, 0), (12, 0, 1, 8, 0)])?;
         match Pair::new(twelve, Cable::new()) {
             Ok(_) => Err(Fail::new("13 circuits")),
             Err(back) => {
-                check(back.refusal.number() == 11)?;
-                waiting(&back.first, 11, &[false, true])?;
-                check(back.second.circuits() == 1)
+                check(back.refusal.number() == 11 && back.second.circuits() == 1)?;
+                waiting(&back.first, 11, &[false, true])
             }
         }
+    }
+
+    #[test]
+    fn plants_have_at_most_12_circuits() -> Result<(), Fail> {
+        is_full(pair(pair(four()?, four()?)?, four()?)?)
     }
 }
