@@ -62,14 +62,19 @@ fn part_checks() -> Result<(), Fail> {
     Ok(())
 }
 
-// The part of an LSP that its check octets cover, from octet 12 on.
+// A frame, and the part that its check octets cover, from octet 12 on.
+static COVERED: [(&[u8], Option<&[u8]>); 3] = [
+    (b"01234567890", None),
+    (b"012345678901", Some(b"")),
+    (b"01234567890123", Some(b"23")),
+];
+
 #[test]
 fn covered_parts() -> Result<(), Fail> {
-    let frame: &[u8] = FIELD_LSP;
-    check(frame.len() == 30)?;
-    check_eq(covered(frame), Some(&frame[12..]))?;
-    check(is_right(&frame[12..], 13))?;
-    check(covered(&frame[0..11]).is_none() && covered(&frame[0..12]).is_some())
+    for (frame, want) in &COVERED {
+        check_eq(covered(*frame), *want)?;
+    }
+    Ok(())
 }
 
 // Check octets stand at places p and p + 1, counted from 1.
@@ -162,14 +167,9 @@ fn fields() -> Result<(), Fail> {
 
 #[test]
 fn first_field() -> Result<(), Fail> {
-    let Ok((code, value, rest)) = read_field(&[8, 2, 5, 6, 7], 3) else {
+    let Ok(field) = read_field(b"\x08\x02\x05\x06\x07", 3) else {
         return Err(Fail::new("a whole field is refused"));
     };
-    check_eq(code, 8)?;
-    check_eq(value, &[5, 6])?;
-    check_eq(rest, &[7])?;
-    let Err(fault) = read_field(&[8, 2, 5], 3) else {
-        return Err(Fail::new("a broken field is not refused"));
-    };
-    check_eq(refusal(fault), (5, 3))
+    let (value, rest): (&[u8], &[u8]) = (b"\x05\x06", b"\x07");
+    check_eq(field, (8, value, rest))
 }

@@ -25,35 +25,34 @@ fn check_cases(heap: Global, cases: &[Case]) -> Result<(), Fail> {
     Ok(())
 }
 
-// The front of a summary, so many entries, their frame's size, and the answer to it.
-static ENTRIES: [(&[u8], u8, usize, Result<u8, Refusal>); 10] = [
-    (BARE_CSNP, 0, 35, Err((5, 33))),
-    (BARE_CSNP, 1, 51, Ok(24)),
-    (BARE_CSNP, 9, 179, Ok(24)),
-    (BARE_CSNP, 10, 195, Err((6, 181))),
-    (BARE_CSNP, 16, 291, Err((4, 8))),
-    (WIDE_CSNP, 15, 275, Ok(24)),
-    (BARE_PSNP, 0, 19, Err((5, 17))),
-    (BARE_PSNP, 1, 35, Ok(26)),
-    (BARE_PSNP, 15, 259, Ok(26)),
-    (BARE_PSNP, 16, 275, Err((5, 17))),
+// The front of a summary, so many entries, octets behind them, the frame's size, and the answer to it.
+struct Listing(&'static [u8], u8, &'static [u8], usize, Result<u8, Refusal>);
+
+static LISTINGS: [Listing; 15] = [
+    Listing(BARE_CSNP, 0, b"", 35, Err((5, 33))),
+    Listing(BARE_CSNP, 1, b"", 51, Ok(24)),
+    Listing(BARE_CSNP, 1, b"\0", 52, Err((5, 33))),
+    Listing(BARE_CSNP, 9, b"", 179, Ok(24)),
+    Listing(BARE_CSNP, 10, b"", 195, Err((6, 181))),
+    Listing(BARE_CSNP, 16, b"", 291, Err((4, 8))),
+    Listing(WIDE_CSNP, 15, b"", 275, Ok(24)),
+    Listing(WIDE_CSNP, 15, b"\0", 276, Err((4, 8))),
+    Listing(BARE_PSNP, 0, b"", 19, Err((5, 17))),
+    Listing(BARE_PSNP, 1, b"", 35, Ok(26)),
+    Listing(BARE_PSNP, 1, b"\x09\0", 37, Err((5, 17))),
+    Listing(BARE_PSNP, 15, b"", 259, Ok(26)),
+    Listing(BARE_PSNP, 15, b"\0", 260, Err((5, 17))),
+    Listing(BARE_PSNP, 16, b"", 275, Err((5, 17))),
+    Listing(BARE_PSNP, 16, b"\0", 276, Err((4, 8))),
 ];
 
-// A summary of so many entries, and the same with an octet more, which is over 275 or no entry.
 #[test]
 fn summary_lengths(rt: LibcRuntime) -> Result<(), Fail> {
-    let heap = rt.alloc();
-    for case in &ENTRIES {
-        let mut frame = joined(heap, case.0, &listing(heap, case.1)?)?;
-        check_eq((frame.len(), answer(&frame)), (case.2, case.3))?;
-        frame.push(0)?;
-        set_length(&mut frame);
-        let over = if case.2 < 275 {
-            (5, case.0.len())
-        } else {
-            (4, 8)
-        };
-        check_eq(answer(&frame), Err(over))?;
+    for case in &LISTINGS {
+        let mut tail = listing(rt.alloc(), case.1)?;
+        tail.extend_from_slice(case.2)?;
+        let frame = joined(rt.alloc(), case.0, &tail)?;
+        check_eq((frame.len(), answer(&frame)), (case.3, case.4))?;
     }
     Ok(())
 }

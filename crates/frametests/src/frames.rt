@@ -77,7 +77,7 @@ pub(crate) fn answer(frame: &[u8]) -> Result<u8, Refusal> {
 }
 
 // Sets a frame's length to the octets that it has.
-pub(crate) fn set_length(frame: &mut Vec<u8>) {
+fn set_length(frame: &mut Vec<u8>) {
     let n = frame.len();
     if let Some(high) = frame.get_mut(8) {
         *high = (n / 256 % 256) as u8;
@@ -175,6 +175,11 @@ pub(crate) fn entry_said(frame: &[u8], k: usize) -> Option<Said> {
         Some(e) => Some(said(e)),
         None => None,
     }
+}
+
+// The place and the octets of an entry of a summary.
+pub(crate) fn entry_part(frame: &[u8], k: usize) -> Option<(usize, &[u8])> {
+    entries_of(frame)?.part(k)
 }
 
 // The place and the octets of an LSP's body or of a summary's entries.

@@ -18,6 +18,18 @@ fn reads_bounds() -> Result<(), Fail> {
     check_eq(bounds(PSNP), Some((SOURCE, [0; 8], [255; 8])))
 }
 
+// The octets of the two entries of CSNP and PSNP.
+const FIRST_OCTETS: &[u8; 16] = b"\x04\xb0\0\0\0\0\0\x01\0\0\0\0\0\x01\xf6\x06";
+
+const SECOND_OCTETS: &[u8; 16] = b"\0\x07\0\0\0\0\0\x02\0\0\x01\x02\x03\x04\xab\xcd";
+
+const TWO_OCTETS: &[u8; 32] = b"\x04\xb0\0\0\0\0\0\x01\0\0\0\0\0\x01\xf6\x06\
+    \0\x07\0\0\0\0\0\x02\0\0\x01\x02\x03\x04\xab\xcd";
+
+// An LSP whose check octets are those of number 2.
+const WRONG_LSP: &[u8; 27] = b"\x83\x1b\x01\x00\x12\x01\x00\x00\x00\x1b\
+    \x04\xb0\x00\x00\x00\x00\x00\x01\x00\x00\x00\x00\x00\x01\xf4\x07\x01";
+
 const SECOND: Said = (7, [0, 0, 0, 0, 0, 2, 0, 0], 0x01020304, [0xab, 0xcd]);
 
 // A summary, which entry of it, from 0, and what it says.
@@ -40,45 +52,58 @@ fn reads_entries() -> Result<(), Fail> {
     Ok(())
 }
 
-// A summary of two entries, and the place of its second.
-static SECONDS: [(&[u8], usize); 2] = [(CSNP, 51), (PSNP, 35)];
-
-#[test]
-fn parts_of_summaries() -> Result<(), Fail> {
-    for (frame, place) in &SECONDS {
-        let entries = entries_of(*frame).ok_or("not read as a summary")?;
-        check(*place <= frame.len())?;
-        check_eq(entries.part(1), Some((*place, &frame[*place..])))?;
-        check(entries.count() == 2 && entries.part(2).is_none())?;
-    }
-    Ok(())
-}
-
-// A frame, its kind's octet, and the place of its body or its entries.
-static CONTENTS: [(&[u8], u8, usize); 4] = [
-    (FIELD_LSP, 18, 27),
-    (PURGED_FIELD_LSP, 18, 27),
-    (CSNP, 24, 35),
-    (PSNP, 26, 19),
+// A summary, which entry of it, from 0, its place and its octets.
+static PARTS: [(&[u8], usize, Option<(usize, &[u8])>); 5] = [
+    (CSNP, 0, Some((35, FIRST_OCTETS))),
+    (CSNP, 2, None),
+    (PSNP, 0, Some((19, FIRST_OCTETS))),
+    (PSNP, 1, Some((35, SECOND_OCTETS))),
+    (BARE_PSNP, 0, None),
 ];
 
 #[test]
-fn kinds_and_contents() -> Result<(), Fail> {
-    for (frame, octet, place) in &CONTENTS {
-        let Ok(kind) = FrameReader::new(*frame).kind() else {
-            return Err(Fail::new("a header is refused"));
-        };
-        check_eq(kind.octet(), *octet)?;
-        check(*place <= frame.len())?;
-        check_eq(content(*frame), Some((*place, &frame[*place..])))?;
+fn reads_parts() -> Result<(), Fail> {
+    for (frame, k, want) in &PARTS {
+        check_eq(entry_part(*frame, *k), *want)?;
     }
     Ok(())
 }
 
-// A frame whose header is right has a kind, and no content where its check octets are wrong.
+// A frame, and the place and the octets of its body or its entries. Wrong check octets leave none.
+static CONTENTS: [(&[u8], Option<(usize, &[u8])>); 5] = [
+    (FIELD_LSP, Some((27, b"\x81\x01\xcc"))),
+    (PURGED_FIELD_LSP, Some((27, b"\x81\x01\xcc"))),
+    (CSNP, Some((35, TWO_OCTETS))),
+    (PSNP, Some((19, TWO_OCTETS))),
+    (WRONG_LSP, None),
+];
+
 #[test]
-fn kind_alone(rt: LibcRuntime) -> Result<(), Fail> {
-    let wrong = joined(rt.alloc(), FIELD_LSP, &[1, 0])?;
-    check_eq(answer(&wrong), Err((7, 24)))?;
-    check(FrameReader::new(&wrong).kind().is_ok() && content(&wrong).is_none())
+fn reads_contents() -> Result<(), Fail> {
+    for (frame, want) in &CONTENTS {
+        check_eq(content(*frame), *want)?;
+    }
+    Ok(())
+}
+
+// A frame, and its kind's octet or the header's refusal. Wrong check octets are not the header's.
+static KINDS: [(&[u8], Result<u8, Refusal>); 6] = [
+    (LSP, Ok(18)),
+    (WRONG_LSP, Ok(18)),
+    (CSNP, Ok(24)),
+    (PSNP, Ok(26)),
+    (b"\x83\x1b\x01\x00\x12\x01\x00\x00\x00\x1b", Err((4, 8))),
+    (b"\x83", Err((1, 1))),
+];
+
+#[test]
+fn reads_kinds() -> Result<(), Fail> {
+    for (frame, want) in &KINDS {
+        let got = match FrameReader::new(*frame).kind() {
+            Ok(kind) => Ok(kind.octet()),
+            Err(fault) => Err(refusal(fault)),
+        };
+        check_eq(got, *want)?;
+    }
+    Ok(())
 }
