@@ -1,0 +1,17 @@
+pub mod OneCopy
+pub mod OnePut
+pub mod PutsToTicks
+pub mod OneCircuit
+pub mod FallenBehind
+pub mod Broadcast
+pub mod CallsBetween
+pub mod Counting
+pub mod Windows
+pub mod Invariant
+pub mod FromOpening
+pub mod Ranks
+pub mod HeardCopies
+pub mod RecordLists
+pub mod RisingLists
+pub mod Projection
+pub mod FlaggedRecords

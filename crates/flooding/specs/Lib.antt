@@ -1,0 +1,10 @@
+pub mod Copies
+pub mod Rules
+pub mod CopyTicks
+pub mod Stretches
+pub mod Hops
+pub mod CopyRuns
+pub mod Ranks
+pub mod HeardCopies
+pub mod RecordLists
+pub mod AllIds
