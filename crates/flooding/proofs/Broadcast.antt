@@ -5,16 +5,17 @@ use mathlib.Core.Bool.{true, false}
 use Prim.Native.Nat.{ℕ, suc, _+_, _%_, _≤_, _<_}
 use native.Mathlib.Omega.{arith}
 use native.Mathlib.Decide.{ℕ-discrete}
-use Rattle.flooding.specs.Copies.{Topology, Held, held, none, Holdings, Mention, copy, entry, unlisted}
+use Rattle.flooding.specs.Copies.{Topology, Held, held, none, Holdings, Mention, copy, entry, unlisted, Live}
 use Rattle.flooding.specs.Rules.{Kind, lsp, psnp, csnp, Sends, as-lsp, in-psnp, in-csnp, omits-placeholder, holds-none, Put, Heeds, Delivery, sender, hears, ignores, misses, detached}
-use Rattle.flooding.specs.CopyTicks.{Srm, Ssn, Live, Phase, not-due, sent, Turn, turn, Tick}
+use Rattle.flooding.specs.CopyTicks.{Srm, Ssn, Phase, not-due, sent, Turn, turn, Tick}
 use Rattle.flooding.specs.Stretches.{In-step}
 use Rattle.flooding.proofs.OneCopy
 use Rattle.flooding.proofs.FallenBehind
 use Rattle.flooding.proofs.FallenBehind.{Is-behind}
-use Rattle.flooding.proofs.OnePut.{put-in-step, put-live, Pending, put-pending, must-hear, sender-sends, says-no-newer, owns, said-older, clash}
+use Rattle.flooding.proofs.OnePut.{put-in-step, put-live, Pending, put-pending, must-hear, sender-sends, says-no-newer, owns, said-older}
 use Rattle.flooding.proofs.PutsToTicks.{phase-keeps, turn-makes, turns-make, turns-keep, Aged, tick-aged, aged-live, aged-srm}
 use Rattle.flooding.proofs.OneCircuit.{Holds, holds-kept}
+use Rattle.flooding.proofs.Tests.{clash}
 
 designated-heeds : (P : Topology) (c : ℕ) (g : Kind) → Heeds P (P .designated c) c g
 designated-heeds P c lsp = tt
@@ -39,7 +40,7 @@ live-dec n none = no (λ z. z)
 live-dec n (held k) = ℕ-discrete (k .rank) (n + n)
 
 lsp-dec : (w : Mention) → Dec (OneCopy.Is-copy w)
-lsp-dec (copy R l) = yes tt
+lsp-dec (copy R l C) = yes tt
 lsp-dec (entry R) = no (λ z. z)
 lsp-dec unlisted = no (λ z. z)
 

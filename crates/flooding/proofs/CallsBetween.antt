@@ -3,9 +3,9 @@ use mathlib.Core.Path.{_≡_, sym, _∙_, ap, subst}
 use mathlib.Core.Logic.{_≢_, _⊎_, inl, inr}
 use mathlib.Core.Bool.{Bool, true, false}
 use Prim.Native.Nat.{ℕ, suc, _%_, _≤_, _<_}
-use Rattle.flooding.specs.Copies.{Topology, Held, Holdings}
-use Rattle.flooding.specs.CopyTicks.{Srm, Live}
-use Rattle.flooding.specs.Stretches.{Conforming, In-step, Left-alone, none-ages, kept-alone, Step}
+use Rattle.flooding.specs.Copies.{Topology, Held, Holdings, Live}
+use Rattle.flooding.specs.CopyTicks.{Srm}
+use Rattle.flooding.specs.Stretches.{Conforming, In-step, Left-alone, none-kept, held-kept, Step}
 use Rattle.flooding.proofs.OnePut.{Pending}
 use Rattle.flooding.proofs.PutsToTicks.{tick-in-step, tick-live}
 use Rattle.flooding.proofs.FallenBehind.{Is-behind}
@@ -13,20 +13,20 @@ use Rattle.flooding.proofs.OneCircuit.{Holds, Pending-in-step, pending-tick, l
 use Rattle.flooding.proofs.Broadcast.{Some-pending, Behind-or-pending-in-step, Some-pending-in-step, csnp-tick-behind, behind-tick, psnp-tick}
 
 left-alone-conforms : {Q : Topology} {x : ℕ} (n L : ℕ) {h h′ : Held} → Left-alone Q x h h′ → Conforming n L h → Conforming n L h′
-left-alone-conforms n L none-ages f = tt
-left-alone-conforms n L (kept-alone a b d e) f = record { not-newer = rw a (f .not-newer); lifetime-in-step = λ q. b ∙ f .lifetime-in-step (sym a ∙ q); form = rw (a, b) (f .form) }
+left-alone-conforms n L none-kept f = tt
+left-alone-conforms n L (held-kept a b d e u) f = record { not-newer = rw a (f .not-newer); lifetime-in-step = λ q. b ∙ f .lifetime-in-step (sym a ∙ q); form = rw (a, b) (f .form) }
 
-left-alone-live : {Q : Topology} {x : ℕ} (n : ℕ) {h h′ : Held} → Left-alone Q x h h′ → Live n h → Live n h′
-left-alone-live n none-ages l = l
-left-alone-live n (kept-alone a b d e) l = a ∙ l
+pub left-alone-live : {Q : Topology} {x : ℕ} (n : ℕ) {h h′ : Held} → Left-alone Q x h h′ → Live n h → Live n h′
+left-alone-live n none-kept l = l
+left-alone-live n (held-kept a b d e u) l = a ∙ l
 
 left-alone-srm : {Q : Topology} {x : ℕ} (c : ℕ) {h h′ : Held} → Q .attached x c ≡ true → Left-alone Q x h h′ → Srm c h → Srm c h′
-left-alone-srm c o none-ages l = l
-left-alone-srm c o (kept-alone a b d e) l = e c o .0 ∙ l
+left-alone-srm c o none-kept l = l
+left-alone-srm c o (held-kept a b d e u) l = e c o .0 ∙ l
 
 left-alone-behind : {Q : Topology} {x : ℕ} (n c s : ℕ) {h h′ : Held} → Q .attached x c ≡ true → Left-alone Q x h h′ → Is-behind n c s h → Is-behind n c s h′
-left-alone-behind n c s o none-ages y = y
-left-alone-behind n c s o (kept-alone {k = k} {k′ = k′} a b d e) y = record { older = rw a (y .older); flag = go (y .flag); wait = rw d (y .wait) }
+left-alone-behind n c s o none-kept y = y
+left-alone-behind n c s o (held-kept {k = k} {k′ = k′} a b d e u) y = record { older = rw a (y .older); flag = go (y .flag); wait = rw d (y .wait) }
   where
     go : (k .ssn c ≡ true) ⊎ (k .srm c ≡ true) → (k′ .ssn c ≡ true) ⊎ (k′ .srm c ≡ true)
     go (inl z) = inl (e c o .1 ∙ z)

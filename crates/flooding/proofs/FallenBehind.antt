@@ -5,9 +5,9 @@ use mathlib.Core.Bool.{true}
 use Prim.Native.Nat.{ℕ, suc, _+_, _≤_, _<_}
 use native.Mathlib.Omega.{arith}
 use native.Mathlib.Decide.{ℕ-discrete}
-use Rattle.flooding.specs.Copies.{Topology, Copy, Held, none, held, Mention, copy, entry, Reflagged}
-use Rattle.flooding.specs.Rules.{Stored, Hears, own-newer, newer-lsp, unknown-purge, same-lsp, older-lsp, unknown-not-live, unknown-entry, same-entry, older-entry, newer-entry, unlisted-none, unlisted-live, unlisted-purge, Sends, as-lsp, in-psnp, in-csnp, omits-placeholder, holds-none, Kind}
-use Rattle.flooding.specs.CopyTicks.{Live, Ages, none-ages, live-ages, expires, wait-falls, deleted}
+use Rattle.flooding.specs.Copies.{Topology, Copy, Held, none, held, Mention, entry, Live, Content}
+use Rattle.flooding.specs.Rules.{Reflagged, Stored, Hears, own-newer, newer-lsp, unknown-purge, same-lsp, older-lsp, unknown-not-live, unknown-entry, same-entry, older-entry, newer-entry, unlisted-none, unlisted-live, unlisted-purge, Sends, as-lsp, in-psnp, in-csnp, omits-placeholder, holds-none, Kind}
+use Rattle.flooding.specs.CopyTicks.{Ages, none-ages, live-ages, expires, wait-falls, deleted}
 use Rattle.flooding.specs.Stretches.{Conforms, Conforming}
 use Rattle.flooding.proofs.OneCopy
 
@@ -47,13 +47,13 @@ module _ (P : Topology) (n L c e : ℕ) where
   abbrev Elsewhere-or-live : ℕ → Mention → Type 0
   Elsewhere-or-live d w = (d ≢ c) ⊎ ((d ≡ c) × OneCopy.Says-live n w)
 
-  stored : (x d R l : ℕ) (k′ : Copy) → P .attached x c ≡ true → R ≤ n + n → (d ≢ c) ⊎ ((d ≡ c) × (R ≡ n + n)) → Stored P x d R l k′ → (k′ .rank ≡ n + n) ⊎ Behind n c e k′
-  stored x d R l k′ o m f s = go (ℕ-discrete R (n + n)) f
+  stored : (x d R l : ℕ) (C : Content) (k′ : Copy) → P .attached x c ≡ true → R ≤ n + n → (d ≢ c) ⊎ ((d ≡ c) × (R ≡ n + n)) → Stored P x d R l C k′ → (k′ .rank ≡ n + n) ⊎ Behind n c e k′
+  stored x d R l C k′ o m f s = go (ℕ-discrete R (n + n)) f
     where
       go : Dec (R ≡ n + n) → (d ≢ c) ⊎ ((d ≡ c) × (R ≡ n + n)) → (k′ .rank ≡ n + n) ⊎ Behind n c e k′
       go (yes i) j = inl (s .rank ∙ i)
       go (no i) (inr (q, j)) = absurd (i j)
-      go (no i) (inl j) = inr (record { older = rw (s .rank) (omega arith); flag = inr (s .others c (λ q. j (sym q)) o .0); wait = fresh-wait (k′ .wait) (s .wait) })
+      go (no i) (inl j) = inr (record { older = rw (s .rank) (omega arith); flag = inr (s .elsewhere c (λ q. j (sym q)) o .0); wait = fresh-wait (k′ .wait) (s .wait) })
 
   -- what remains of a copy whose flags on d alone changed
   rest : (d R : ℕ) (k k′ : Copy) → Reflagged d k k′ → k′ .wait ≡ k .wait → Behind n c e k → (d ≢ c) ⊎ ((d ≡ c) × (R ≡ n + n)) → (R ≡ n + n → ⊥) → (k′ .rank ≡ n + n) ⊎ Behind n c e k′
@@ -62,7 +62,7 @@ module _ (P : Topology) (n L c e : ℕ) where
 
   pub behind-hears : {x d : ℕ} {w : Mention} {h h′ : Held} → Hears P x d w h h′ → P .attached x c ≡ true → OneCopy.Says-no-newer n L w → (x ≡ P .owner → Live n h) → Elsewhere-or-live d w → Is-behind n c e h → Live n h′ ⊎ Is-behind n c e h′
   behind-hears (own-newer {h = h} a b z) o f ow fr y = absurd (behind-not-live n c e h y (ow a))
-  behind-hears {x} {d} (newer-lsp {R = R} {L = l} {k′ = k′} a b) o f ow fr y = stored x d R l k′ o (f .0) fr b
+  behind-hears {x} {d} (newer-lsp {R = R} {L = l} {C = C} {k′ = k′} a b) o f ow fr y = stored x d R l C k′ o (f .0) fr b
   behind-hears (unknown-purge a) o f ow fr y = absurd y
   behind-hears {x} {d} (same-lsp {R = R} {k = k} {k′ = k′} a b i j) o f ow fr y = rest d R k k′ b i y fr (λ q. omega arith)
   behind-hears {x} {d} (older-lsp {R = R} {k = k} {k′ = k′} a b i j) o f ow fr y = rest d R k k′ b i y fr (λ q. omega arith)
@@ -112,7 +112,7 @@ module _ (P : Topology) (n L c e : ℕ) where
 
   pub behind-ages : {x : ℕ} {h h′ : Held} → Ages P x h h′ → P .attached x c ≡ true → Conforming n (suc L) h → e < 50 → Is-behind n c e h → Is-behind n c (suc e) h′
   behind-ages none-ages o f m y = y
-  behind-ages (live-ages {k = k} {k′ = k′} a b i j q) o f m y = record { older = rw i (y .older); flag = go (y .flag); wait = go₂ (y .wait) }
+  behind-ages (live-ages {k = k} {k′ = k′} a b i j q u) o f m y = record { older = rw i (y .older); flag = go (y .flag); wait = go₂ (y .wait) }
     where
       go : (k .ssn c ≡ true) ⊎ (k .srm c ≡ true) → (k′ .ssn c ≡ true) ⊎ (k′ .srm c ≡ true)
       go (inl z) = inl (q c .1 ∙ z)

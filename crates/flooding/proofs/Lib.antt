@@ -1,3 +1,6 @@
+pub mod Tests
+pub mod Counting
+pub mod Ways
 pub mod OneCopy
 pub mod OnePut
 pub mod PutsToTicks
@@ -5,13 +8,13 @@ pub mod OneCircuit
 pub mod FallenBehind
 pub mod Broadcast
 pub mod CallsBetween
-pub mod Counting
 pub mod Windows
 pub mod Invariant
-pub mod FromOpening
+pub mod RunsConsistent
+pub mod NeverOlder
+pub mod HeldThrough
+pub mod Converged
 pub mod Ranks
 pub mod HeardCopies
-pub mod RecordLists
-pub mod RisingLists
+pub mod FrameLists
 pub mod Projection
-pub mod FlaggedRecords

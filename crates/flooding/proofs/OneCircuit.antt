@@ -3,9 +3,9 @@ use mathlib.Core.Path.{_≡_}
 use mathlib.Core.Logic.{_≢_, _⊎_, inl, inr}
 use mathlib.Core.Bool.{Bool, true, false}
 use Prim.Native.Nat.{ℕ, _%_, _≤_}
-use Rattle.flooding.specs.Copies.{Topology, Held, Holdings, Mention}
+use Rattle.flooding.specs.Copies.{Topology, Held, Holdings, Mention, Live}
 use Rattle.flooding.specs.Rules.{Kind, lsp, csnp, Sends, as-lsp, Put}
-use Rattle.flooding.specs.CopyTicks.{Live, Phase, not-due, sent, Tick}
+use Rattle.flooding.specs.CopyTicks.{Phase, not-due, sent, Tick}
 use Rattle.flooding.specs.Stretches.{In-step}
 use Rattle.flooding.proofs.OneCopy
 use Rattle.flooding.proofs.OnePut.{put-in-step, put-live, Pending, put-pending, lsp-reaches, must-hear, sender-sends, says-no-newer, said-older}

@@ -1,39 +1,31 @@
 -- What one put does to one copy, where no router holds anything newer than live n.
 use mathlib.Core.Path.{_≡_, refl, sym, _∙_, ap}
 use mathlib.Core.Logic.{_⊎_, inl, inr}
-use mathlib.Core.Bool.{Bool, true, false}
+use mathlib.Core.Bool.{true, false}
 use Prim.Native.Nat.{ℕ, suc, _+_, _≤_, _<_}
 use native.Mathlib.Omega.{arith}
 use native.Mathlib.Decide.{ℕ-discrete}
-use Rattle.flooding.specs.Copies.{Topology, Copy, Held, none, held, Mention, copy, entry, unlisted, Reflagged, Newer}
-use Rattle.flooding.specs.Rules.{Hears, own-newer, newer-lsp, unknown-purge, same-lsp, older-lsp, unknown-not-live, unknown-entry, same-entry, older-entry, newer-entry, unlisted-none, unlisted-live, unlisted-purge, Sends, as-lsp, in-psnp, in-csnp, omits-placeholder, holds-none, Kind, lsp}
-use Rattle.flooding.specs.CopyTicks.{Srm, Live, Ages, none-ages, live-ages, expires, wait-falls, deleted}
+use Rattle.flooding.specs.Copies.{Topology, Copy, Held, none, held, Mention, copy, entry, unlisted, Newer, Live}
+use Rattle.flooding.specs.Rules.{Reflagged, Hears, own-newer, newer-lsp, unknown-purge, same-lsp, older-lsp, unknown-not-live, unknown-entry, same-entry, older-entry, newer-entry, unlisted-none, unlisted-live, unlisted-purge, Sends, as-lsp, in-psnp, in-csnp, omits-placeholder, holds-none, Kind, lsp}
+use Rattle.flooding.specs.CopyTicks.{Srm, Ages, none-ages, live-ages, expires, wait-falls, deleted}
 use Rattle.flooding.specs.Stretches.{Conforms, Conforming}
+use Rattle.flooding.proofs.Tests.{Outcome, outcome, is-true, is-false}
 
 abbrev pub Says-no-newer : ℕ → ℕ → Mention → Type 0
-Says-no-newer n L (copy R l) = (R ≤ n + n) × (R ≡ n + n → l ≡ L) × ((l ≡ 0) ⊎ ((j : ℕ) × (R ≡ j + j)))
+Says-no-newer n L (copy R l C) = (R ≤ n + n) × (R ≡ n + n → l ≡ L) × ((l ≡ 0) ⊎ ((j : ℕ) × (R ≡ j + j)))
 Says-no-newer n L (entry R) = R ≤ n + n
 Says-no-newer n L unlisted = Unit {0}
 
 -- the mention says n, live
 abbrev pub Says-live : ℕ → Mention → Type 0
-Says-live n (copy R l) = R ≡ n + n
+Says-live n (copy R l C) = R ≡ n + n
 Says-live n (entry R) = R ≡ n + n
 Says-live n unlisted = ⊥
 
 abbrev pub Is-copy : Mention → Type 0
-Is-copy (copy R l) = Unit {0}
+Is-copy (copy R l C) = Unit {0}
 Is-copy (entry R) = ⊥
 Is-copy unlisted = ⊥
-
--- a test, and what it came to
-pub data Outcome (b : Bool) : Type 0 where
-  is-true : b ≡ true → Outcome b
-  is-false : b ≡ false → Outcome b
-
-pub outcome : (b : Bool) → Outcome b
-outcome true = is-true refl
-outcome false = is-false refl
 
 module _ (n L : ℕ) where
   reflagged-conforms : {c : ℕ} {k k′ : Copy} → Reflagged c k k′ → Conforms n L k → Conforms n L k′
@@ -72,15 +64,15 @@ module _ (n L : ℕ) where
   says-live-holds (holds-none a) q = absurd q
 
   -- nothing fair is newer than live n
-  pub not-newer-than-live : (R l : ℕ) (h : Held) → Says-no-newer n L (copy R l) → Newer R h → Live n h → ⊥
-  not-newer-than-live R l none f w v = v
-  not-newer-than-live R l (held k) f w v = omega arith
+  pub not-newer-than-live : (R : ℕ) (h : Held) → R ≤ n + n → Newer R h → Live n h → ⊥
+  not-newer-than-live R none f w v = v
+  not-newer-than-live R (held k) f w v = omega arith
 
   placeholder-conforms : (R : ℕ) (k : Copy) → R ≤ n + n → Newer R none → k .rank ≡ 0 → k .lifetime ≡ 0 → Conforms n L k
   placeholder-conforms R k b (j, e, p) q z = record { not-newer = omega arith; lifetime-in-step = λ (i : k .rank ≡ _). absurd (omega arith); form = inl z }
 
   pub hears-conforms : {P : Topology} {x c : ℕ} {w : Mention} {h h′ : Held} → Hears P x c w h h′ → Says-no-newer n L w → Conforming n L h → (x ≡ P .owner → Live n h) → Conforming n L h′
-  hears-conforms (own-newer {h = h} a b z) f g o = absurd (not-newer-than-live _ _ h f b (o a))
+  hears-conforms (own-newer {h = h} a b z) f g o = absurd (not-newer-than-live _ h (f .0) b (o a))
   hears-conforms (newer-lsp a b) f g o = record {
       not-newer = rw (b .rank) (f .0);
       lifetime-in-step = λ q. b .lifetime ∙ f .1 (sym (b .rank) ∙ q);
@@ -99,8 +91,8 @@ module _ (n L : ℕ) where
   hears-conforms (unlisted-purge a) f g o = g
 
   pub hears-live : {P : Topology} {x c : ℕ} {w : Mention} {h h′ : Held} → Hears P x c w h h′ → Says-no-newer n L w → Live n h → Live n h′
-  hears-live (own-newer {h = h} a b z) f v = absurd (not-newer-than-live _ _ h f b v)
-  hears-live (newer-lsp {h = h} a b) f v = absurd (not-newer-than-live _ _ h f a v)
+  hears-live (own-newer {h = h} a b z) f v = absurd (not-newer-than-live _ h (f .0) b v)
+  hears-live (newer-lsp {h = h} a b) f v = absurd (not-newer-than-live _ h (f .0) a v)
   hears-live (unknown-purge a) f v = v
   hears-live (same-lsp a b d e) f v = b .rank ∙ v
   hears-live (older-lsp a b d e) f v = b .rank ∙ v
@@ -140,10 +132,10 @@ module _ (n L : ℕ) where
       go (no i) j = inl (e .srm c i ∙ s)
 
   pub hears-srm : {P : Topology} {x d : ℕ} (c : ℕ) {w : Mention} {h h′ : Held} → Hears P x d w h h′ → Says-no-newer n L w → Live n h → Srm c h → Srm c h′ ⊎ Clears-srm P c d w
-  hears-srm c (own-newer {h = h} a b z) f v s = absurd (not-newer-than-live _ _ h f b v)
-  hears-srm c (newer-lsp {h = h} a b) f v s = absurd (not-newer-than-live _ _ h f a v)
+  hears-srm c (own-newer {h = h} a b z) f v s = absurd (not-newer-than-live _ h (f .0) b v)
+  hears-srm c (newer-lsp {h = h} a b) f v s = absurd (not-newer-than-live _ h (f .0) a v)
   hears-srm c (unknown-purge a) f v s = absurd v
-  hears-srm {P} {x} {d} c (same-lsp {R = R} {L = l} a b i e) f v s = reflagged-clears-srm P c d (copy R l) b (a ∙ v) (inr tt) s
+  hears-srm {P} {x} {d} c (same-lsp {R = R} {L = l} {C = C} a b i e) f v s = reflagged-clears-srm P c d (copy R l C) b (a ∙ v) (inr tt) s
   hears-srm {P} {x} {d} c (older-lsp a b i e) f v s = inl (reflagged-srm c d b s e)
   hears-srm c (unknown-not-live a) f v s = absurd v
   hears-srm c (unknown-entry a b d e i) f v s = absurd v
@@ -171,7 +163,7 @@ module _ (n L : ℕ) where
 
   -- an LSP of n puts its hearer among the holders
   pub hears-says-live : {P : Topology} {x c : ℕ} {w : Mention} {h h′ : Held} → 1 ≤ n → Hears P x c w h h′ → Says-live n w → Is-copy w → Says-no-newer n L w → Conforming n L h → (x ≡ P .owner → Live n h) → Live n h′
-  hears-says-live p (own-newer {h = h} a b z) t l f g o = absurd (not-newer-than-live _ _ h f b (o a))
+  hears-says-live p (own-newer {h = h} a b z) t l f g o = absurd (not-newer-than-live _ h (f .0) b (o a))
   hears-says-live p (newer-lsp a b) t l f g o = b .rank ∙ t
   hears-says-live p (unknown-purge a) t l f g o = absurd (a (n, t, p))
   hears-says-live p (same-lsp a b d e) t l f g o = b .rank ∙ sym a ∙ t
@@ -187,13 +179,13 @@ module _ (n L : ℕ) where
 
   -- a mention of a router that does not hold n has a holder set SRM
   abbrev pub Says-older : Mention → Type 0
-  Says-older (copy R l) = R < n + n
+  Says-older (copy R l C) = R < n + n
   Says-older (entry R) = R < n + n
   Says-older unlisted = Unit {0}
 
   pub hears-older : {P : Topology} {x c : ℕ} {w : Mention} {h h′ : Held} → 1 ≤ L → Hears P x c w h h′ → Says-older w → Says-no-newer n L w → Conforming n L h → Live n h → Srm c h′
-  hears-older p (own-newer {h = h} a b z) l f g v = absurd (not-newer-than-live _ _ h f b v)
-  hears-older p (newer-lsp {h = h} a b) l f g v = absurd (not-newer-than-live _ _ h f a v)
+  hears-older p (own-newer {h = h} a b z) l f g v = absurd (not-newer-than-live _ h (f .0) b v)
+  hears-older p (newer-lsp {h = h} a b) l f g v = absurd (not-newer-than-live _ h (f .0) a v)
   hears-older p (unknown-purge a) l f g v = absurd v
   hears-older p (same-lsp {R = R} {k = k} a b d e) l f g v = absurd (omega arith)
   hears-older p (older-lsp a b d e) l f g v = e
@@ -224,14 +216,14 @@ module _ (n L : ℕ) where
   -- ageing, where copies of n have one more to live than L
   pub ages-live : {P : Topology} {x : ℕ} {h h′ : Held} → 1 ≤ L → Ages P x h h′ → Conforming n (suc L) h → Live n h → Live n h′
   ages-live p none-ages f v = v
-  ages-live p (live-ages a b d e i) f v = d ∙ v
+  ages-live p (live-ages a b d e i u) f v = d ∙ v
   ages-live p (expires {k = k} a b d e i j) f v = let z = f .lifetime-in-step v in absurd (omega arith)
   ages-live p (wait-falls {k = k} a b d e i j) f v = let z = f .lifetime-in-step v in absurd (omega arith)
   ages-live p (deleted {k = k} a b) f v = let z = f .lifetime-in-step v in absurd (omega arith)
 
   pub ages-srm : {P : Topology} {x : ℕ} {h h′ : Held} (c : ℕ) → 1 ≤ L → Ages P x h h′ → Conforming n (suc L) h → Live n h → Srm c h → Srm c h′
   ages-srm c p none-ages f v s = s
-  ages-srm c p (live-ages a b d e i) f v s = i c .0 ∙ s
+  ages-srm c p (live-ages a b d e i u) f v s = i c .0 ∙ s
   ages-srm c p (expires {k = k} a b d e i j) f v s = let z = f .lifetime-in-step v in absurd (omega arith)
   ages-srm c p (wait-falls {k = k} a b d e i j) f v s = let z = f .lifetime-in-step v in absurd (omega arith)
   ages-srm c p (deleted {k = k} a b) f v s = let z = f .lifetime-in-step v in absurd (omega arith)
@@ -249,7 +241,7 @@ module _ (n L : ℕ) where
 
   pub ages-conforms : {P : Topology} {x : ℕ} {h h′ : Held} → 1 ≤ L → Ages P x h h′ → Conforming n (suc L) h → Conforming n L h′
   ages-conforms p none-ages f = tt
-  ages-conforms p (live-ages {k = k} {k′ = k′} a b d e i) f = record {
+  ages-conforms p (live-ages {k = k} {k′ = k′} a b d e i u) f = record {
       not-newer = rw d (f .not-newer);
       lifetime-in-step = λ q. let z = f .lifetime-in-step (sym d ∙ q) in omega arith;
       form = go (f .form)

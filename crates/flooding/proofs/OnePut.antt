@@ -3,13 +3,13 @@ use mathlib.Core.Path.{_≡_, refl, sym, _∙_, ap, subst}
 use mathlib.Core.Logic.{_≢_, _⊎_, inl, inr}
 use mathlib.Core.Bool.{Bool, true, false}
 use Prim.Native.Nat.{ℕ, _≤_}
-use native.Mathlib.Omega.{arith}
 use native.Mathlib.Decide.{ℕ-discrete}
-use Rattle.flooding.specs.Copies.{Topology, Held, Holdings, Mention}
+use Rattle.flooding.specs.Copies.{Topology, Held, Holdings, Mention, Live}
 use Rattle.flooding.specs.Rules.{Hears, Sends, as-lsp, in-psnp, in-csnp, omits-placeholder, holds-none, Kind, lsp, Delivery, sender, hears, ignores, misses, detached, Put, Heeds}
-use Rattle.flooding.specs.CopyTicks.{Srm, Live}
+use Rattle.flooding.specs.CopyTicks.{Srm}
 use Rattle.flooding.specs.Stretches.{Conforming, In-step}
 use Rattle.flooding.proofs.OneCopy
+use Rattle.flooding.proofs.Tests.{clash}
 
 pub sender-sends : {P : Topology} {b : Bool} {r c : ℕ} {g : Kind} {w : Mention} {h h′ : Held} → Delivery P b r c g w r h h′ → Sends P r c g w h h′
 sender-sends (sender e q) = q
@@ -53,9 +53,6 @@ module _ (P : Topology) (n : ℕ) where
 
     pub said-older : Live n (s r) ⊎ OneCopy.Says-older n (G .left) (p .mention)
     said-older = OneCopy.sends-older n (G .left) (sender-sends (p .delivery r)) (G .conforming r)
-
-pub clash : {A : Type 0} {b : Bool} → b ≡ true → b ≡ false → A
-clash {b = b} p q = absurd (let z : _≡_ {A = ℕ} 0 1 = cc in omega arith)
 
 pub must-hear : {P : Topology} {r c x : ℕ} {g : Kind} {w : Mention} {h h′ : Held} → Delivery P false r c g w x h h′ → x ≢ r → P .attached x c ≡ true → Heeds P x c g → Hears P x c w h h′
 must-hear (sender e q) i o k = absurd (i e)

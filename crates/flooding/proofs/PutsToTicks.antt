@@ -4,9 +4,9 @@ use mathlib.Core.Bool.{Bool}
 use mathlib.Core.List.{List}
 use Prim.Native.Nat.{ℕ, suc, _≤_}
 use native.Mathlib.Omega.{arith}
-use Rattle.flooding.specs.Copies.{Topology, Held, none, Holdings}
+use Rattle.flooding.specs.Copies.{Topology, Held, Holdings, Live}
 use Rattle.flooding.specs.Rules.{Kind, lsp, psnp, csnp, Put}
-use Rattle.flooding.specs.CopyTicks.{Srm, Live, Ages, Phase, not-due, sent, Turn, turn, Turns, done, then, Among, first, later, Tick, none-ages, live-ages, expires, wait-falls, deleted}
+use Rattle.flooding.specs.CopyTicks.{Srm, Ages, Phase, not-due, sent, Turn, turn, Turns, done, then, Among, first, later, Tick, none-ages, live-ages, expires, wait-falls, deleted}
 use Rattle.flooding.specs.Stretches.{Conforming, In-step}
 use Rattle.flooding.proofs.OneCopy
 use Rattle.flooding.proofs.OnePut.{put-in-step, put-live}
@@ -40,7 +40,7 @@ module _ (P : Topology) (b : Bool) (Q R : Holdings → Type 0)
 -- ageing leaves the holdings good, with one less to live
 age-left : (P : Topology) (n L x : ℕ) {h h′ : Held} → 1 ≤ L → Ages P x h h′ → Conforming n L h → Live n h → Live n h′ → (m : ℕ) × (L ≡ suc m) × (1 ≤ m)
 age-left P n L x p none-ages f v w = absurd v
-age-left P n L x p (live-ages {k′ = k} a b d e i) f v w = (k .lifetime, sym (f .lifetime-in-step v) ∙ a, b)
+age-left P n L x p (live-ages {k′ = k} a b d e i u) f v w = (k .lifetime, sym (f .lifetime-in-step v) ∙ a, b)
 age-left P n L x p (expires {k = k} {k′ = k′} a b d e i j) f v w = absurd (omega arith)
 age-left P n L x p (wait-falls {k = k} a b d e i j) f v w = let z = f .lifetime-in-step v in absurd (omega arith)
 age-left P n L x p (deleted a b) f v w = absurd w

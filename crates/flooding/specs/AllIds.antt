@@ -1,84 +1,70 @@
--- The whole: every router's database, as a function from identifiers; frames, as what they say of each identifier.
+-- All identifiers together: every router's database, frames put one after the other, and a tick of the whole network. A tick of the whole is a
+-- tick of each identifier.
 use mathlib.Core.Path.{_≡_}
 use mathlib.Core.Logic.{_⊎_}
 use mathlib.Core.Bool.{Bool, true, false}
 use mathlib.Core.List.{List, [], _∷_}
-use Prim.Native.Nat.{ℕ, suc, _≤_, _<_}
-use Rattle.flooding.specs.Copies.{Topology, Held, Holdings, Mention}
+use Prim.Native.Nat.{ℕ, suc}
+use Rattle.flooding.specs.Copies.{Topology, Held, Holdings, Live, Not-live}
 use Rattle.flooding.specs.Rules.{Kind, lsp, psnp, csnp, Delivery}
-use Rattle.flooding.specs.CopyTicks.{Due, Ages, Live, Among}
-use Rattle.flooding.specs.CopyRuns.{Not-live, Slot, Issue}
+use Rattle.flooding.specs.CopyTicks.{Due, Ages, Among}
+use Rattle.flooding.specs.CopyRuns.{Slot, Issue, Full-tick}
+use Rattle.flooding.specs.Frames.{Saying, silent, mentions, Frame, Never-mentions, Mentions-once}
 
+-- what router x holds of identifier i
 abbrev pub Databases : Type 0
 Databases = ℕ → ℕ → Held
 
-abbrev pub view : ℕ → Databases → Holdings
-view i s x = s x i
+-- what is held of identifier i
+abbrev pub of-id : ℕ → Databases → Holdings
+of-id i s x = s x i
 
-pub data Saying : Type 0 where
-  silent : Saying
-  mentions : Mention → Saying
-
-abbrev pub Frame : Type 0
-Frame = ℕ → Saying
-
--- what becomes of a record as a frame is put
+-- what becomes of router x's copy as a frame that says this of the identifier is put
 abbrev pub Delivered : Topology → Bool → ℕ → ℕ → Kind → Saying → ℕ → Held → Held → Type 0
-Delivered P b r c g silent x h h′ = h′ ≡ h
-Delivered P b r c g (mentions w) x h h′ = Delivery P b r c g w x h h′
+Delivered P missed r c g silent x h h′ = h′ ≡ h
+Delivered P missed r c g (mentions w) x h h′ = Delivery P missed r c g w x h h′
 
--- P i is the topology with the owner of identifier i
-pub record Frame-put (P : ℕ → Topology) (b : Bool) (r c : ℕ) (g : Kind) (f : Frame) (s s′ : Databases) : Type 0 where
+-- router r puts a frame on circuit c; P i is the topology with the owner of identifier i
+pub record Frame-put (P : ℕ → Topology) (missed : Bool) (r c : ℕ) (g : Kind) (f : Frame) (s s′ : Databases) : Type 0 where
   pub sender-attached : (i : ℕ) → P i .attached r c ≡ true
-  pub each : (i x : ℕ) → Delivered (P i) b r c g (f i) x (s x i) (s′ x i)
+  pub delivery : (i x : ℕ) → Delivered (P i) missed r c g (f i) x (s x i) (s′ x i)
 
-pub data Frames-put (P : ℕ → Topology) (b : Bool) (r c : ℕ) (g : Kind) : List Frame → Databases → Databases → Type 0 where
-  no-frames : {s : Databases} → Frames-put P b r c g [] s s
-  one-frame : {f : Frame} {fs : List Frame} {s m e : Databases} → Frame-put P b r c g f s m → Frames-put P b r c g fs m e → Frames-put P b r c g (f ∷ fs) s e
+pub data Frames-put (P : ℕ → Topology) (missed : Bool) (r c : ℕ) (g : Kind) : List Frame → Databases → Databases → Type 0 where
+  all-put : {s : Databases} → Frames-put P missed r c g [] s s
+  one-put : {f : Frame} {fs : List Frame} {s m e : Databases} → Frame-put P missed r c g f s m → Frames-put P missed r c g fs m e →
+    Frames-put P missed r c g (f ∷ fs) s e
 
-pub data Never-mentions (i : ℕ) : List Frame → Type 0 where
-  nil : Never-mentions i []
-  cons : {f : Frame} {fs : List Frame} → f i ≡ silent → Never-mentions i fs → Never-mentions i (f ∷ fs)
-
-pub data Mentions-once (i : ℕ) : List Frame → Type 0 where
-  now : {f : Frame} {fs : List Frame} (w : Mention) → f i ≡ mentions w → Never-mentions i fs → Mentions-once i (f ∷ fs)
-  next : {f : Frame} {fs : List Frame} → f i ≡ silent → Mentions-once i fs → Mentions-once i (f ∷ fs)
-
--- one part of a turn: the frames speak once of each identifier that is due, and of no other
-pub record All-phase (P : ℕ → Topology) (b : Bool) (t r c : ℕ) (g : Kind) (s s′ : Databases) : Type 0 where
+-- one phase of a turn: the frames mention each identifier that is due once, and no other
+pub record All-phase (P : ℕ → Topology) (missed : Bool) (t r c : ℕ) (g : Kind) (s s′ : Databases) : Type 0 where
   pub frames : List Frame
-  pub puts : Frames-put P b r c g frames s s′
-  pub covers : (i : ℕ) → (Due (P i) t r c g (s r i) × Mentions-once i frames) ⊎ ((Due (P i) t r c g (s r i) → ⊥) × Never-mentions i frames)
+  pub puts : Frames-put P missed r c g frames s s′
+  pub each : (i : ℕ) → (Due (P i) t r c g (s r i) × Mentions-once i frames) ⊎ ((Due (P i) t r c g (s r i) → ⊥) × Never-mentions i frames)
 
-pub data All-turn (P : ℕ → Topology) (b : Bool) (t r c : ℕ) : Databases → Databases → Type 0 where
-  all-turn : {p q m e : Databases} → All-phase P b t r c lsp p q → All-phase P b t r c psnp q m → All-phase P b t r c csnp m e → All-turn P b t r c p e
+-- router r's turn on circuit c
+pub data All-turn (P : ℕ → Topology) (missed : Bool) (t r c : ℕ) : Databases → Databases → Type 0 where
+  all-turn : {p q m e : Databases} → All-phase P missed t r c lsp p q → All-phase P missed t r c psnp q m → All-phase P missed t r c csnp m e →
+    All-turn P missed t r c p e
 
-pub data All-turns (P : ℕ → Topology) (b : Bool) (t : ℕ) : List (ℕ × ℕ) → Databases → Databases → Type 0 where
-  done : {s : Databases} → All-turns P b t [] s s
-  then : {r c : ℕ} {l : List (ℕ × ℕ)} {p q e : Databases} → All-turn P b t r c p q → All-turns P b t l q e → All-turns P b t ((r, c) ∷ l) p e
+pub data All-turns (P : ℕ → Topology) (missed : Bool) (t : ℕ) : List (ℕ × ℕ) → Databases → Databases → Type 0 where
+  all-done : {s : Databases} → All-turns P missed t [] s s
+  all-then : {r c : ℕ} {l : List (ℕ × ℕ)} {p q e : Databases} → All-turn P missed t r c p q → All-turns P missed t l q e →
+    All-turns P missed t ((r, c) ∷ l) p e
 
-pub record All-tick (P : ℕ → Topology) (b : Bool) (t : ℕ) (s s′ : Databases) : Type 0 where
-  pub aged : Databases
-  pub ages : (i x : ℕ) → Ages (P i) x (s x i) (aged x i)
-  pub order : List (ℕ × ℕ)
-  pub every : (i r c : ℕ) → P i .attached r c ≡ true → Among r c order
-  pub turns : All-turns P b t order aged s′
-
--- frames that take the identifiers of D in rising order, from lo on
-pub data Mentions-rising (D : ℕ → Type 0) : ℕ → List Frame → Type 0 where
-  no-more : {lo : ℕ} → ((j : ℕ) → lo ≤ j → D j → ⊥) → Mentions-rising D lo []
-  frame : {lo : ℕ} {f : Frame} {fs : List Frame} (hi : ℕ) → lo ≤ hi → ((j : ℕ) → lo ≤ j → j < hi → D j → (w : Mention) × (f j ≡ mentions w)) →
-    ((j : ℕ) → (j < lo) ⊎ ((hi ≤ j) ⊎ (D j → ⊥)) → f j ≡ silent) → Mentions-rising D hi fs → Mentions-rising D lo (f ∷ fs)
-
--- a full tick of the network: P i and S i are the topology and the slot of identifier i
+-- a whole tick of the network: P i and S i are the topology and the slot of identifier i
 pub record Network-tick (P P′ : ℕ → Topology) (clock : ℕ) (S S′ : ℕ → Slot) (missed : Bool) (s s′ : Databases) : Type 0 where
   pub owner : (i : ℕ) → P′ i .owner ≡ P i .owner
   pub aged : Databases
-  pub reissued : Databases
   pub ages : (i x : ℕ) → Ages (P′ i) x (s x i) (aged x i)
   pub stays-active : (i : ℕ) → P′ i .active ≡ true → (P i .active ≡ true) × Live (S i .last) (aged (P i .owner) i)
   pub turns-inactive : (i : ℕ) → P′ i .active ≡ false → (P i .active ≡ false) ⊎ Not-live (aged (P i .owner) i)
-  pub issue : (i : ℕ) → ((S′ i ≡ S i) × (view i reissued ≡ view i aged)) ⊎ Issue (P′ i) (P′ i) (suc clock) (S i) (S′ i) (view i aged) (view i reissued)
+  pub reissued : Databases
+  pub reissue : (i : ℕ) →
+    ((S′ i ≡ S i) × (of-id i reissued ≡ of-id i aged)) ⊎ Issue (P′ i) (P′ i) (suc clock) (S i) (S′ i) (of-id i aged) (of-id i reissued)
   pub order : List (ℕ × ℕ)
   pub every : (i r c : ℕ) → P′ i .attached r c ≡ true → Among r c order
   pub turns : All-turns P′ missed (suc clock) order reissued s′
+
+abbrev pub Projects : Type 0
+Projects =
+    (P P′ : ℕ → Topology) (clock : ℕ) (S S′ : ℕ → Slot) (missed : Bool) (s s′ : Databases) → Network-tick P P′ clock S S′ missed s s′ →
+    (i : ℕ) → Full-tick (P i) (P′ i) clock (S i) (S′ i) missed (of-id i s) (of-id i s′)

@@ -1,81 +1,94 @@
--- One identifier's whole story: its owner's slot, the calls, and full ticks.
+-- Runs, as one identifier sees them: from an opened network on, calls of its slot, other calls and ticks, in any order.
 use mathlib.Core.Path.{_≡_}
 use mathlib.Core.Logic.{_⊎_, _≢_}
 use mathlib.Core.Bool.{Bool, true, false}
 use mathlib.Core.List.{List}
-use Prim.Native.Nat.{ℕ, suc, _+_, _*_, _≤_, _<_}
-use Rattle.flooding.specs.Copies.{Topology, Copy, Held, none, held, Holdings}
-use Rattle.flooding.specs.CopyTicks.{Live, Ages, Among, Turns}
-use Rattle.flooding.specs.Stretches.{Keeps-circuits, Left-alone, count-of, Joined}
+use Prim.Native.Nat.{ℕ, suc, _+_, _≤_}
+use Rattle.flooding.specs.Copies.{Content, Topology, Copy, none, held, Holdings, Live, Not-live}
+use Rattle.flooding.specs.CopyTicks.{Ages, Among, Turns}
+use Rattle.flooding.specs.Stretches.{Keeps-circuits, Left-alone, bit}
 
--- nothing live
-abbrev pub Not-live : Held → Type 0
-Not-live none = Unit {0}
-Not-live (held k) = k .lifetime ≡ 0
-
--- the slot's state: how many issues, and the clock at which each issue's lifetime ends
+-- the owner's slot: how many issues there were, the clock at which the m-th issue's lifetime ends, and its content
 pub record Slot : Type 0 where
   pub last : ℕ
   pub ends : ℕ → ℕ
+  pub content : ℕ → Content
 
--- a new issue, by originate or in a tick
+-- all that the identifier sees of the network
+pub record View : Type 0 where
+  pub topology : Topology
+  pub clock : ℕ
+  pub slot : Slot
+  pub holdings : Holdings
+
+-- a new issue, by originate or in a tick: the owner holds it with lifetime 1,200, and the slot is active
 pub record Issue (P P′ : Topology) (clock : ℕ) (S S′ : Slot) (s s′ : Holdings) : Type 0 where
   pub owner : P′ .owner ≡ P .owner
   pub active : P′ .active ≡ true
   pub last : S′ .last ≡ suc (S .last)
-  pub before : (m : ℕ) → m ≤ S .last → S′ .ends m ≡ S .ends m
+  pub ends-before : (m : ℕ) → m ≤ S .last → S′ .ends m ≡ S .ends m
+  pub content-before : (m : ℕ) → m ≤ S .last → S′ .content m ≡ S .content m
   pub ends : S′ .ends (suc (S .last)) ≡ 1200 + clock
-  pub cell : Copy
-  pub stands : s′ (P .owner) ≡ held cell
-  pub rank : cell .rank ≡ suc (S .last) + suc (S .last)
-  pub lifetime : cell .lifetime ≡ 1200
+  pub new : Copy
+  pub stands : s′ (P .owner) ≡ held new
+  pub rank : new .rank ≡ suc (S .last) + suc (S .last)
+  pub lifetime : new .lifetime ≡ 1200
+  pub content : new .content ≡ S′ .content (suc (S .last))
   pub others : (x : ℕ) → x ≢ P .owner → s′ x ≡ s x
 
--- a full tick from topology P to P′, which differ in whether the slot is active
+-- a withdrawal: the owner holds a purge of its last number, and the slot is not active
+pub record Withdrawal (P P′ : Topology) (S : Slot) (s s′ : Holdings) : Type 0 where
+  pub owner : P′ .owner ≡ P .owner
+  pub inactive : P′ .active ≡ false
+  pub new : Copy
+  pub stands : s′ (P .owner) ≡ held new
+  pub rank : new .rank ≡ suc (S .last + S .last)
+  pub lifetime : new .lifetime ≡ 0
+  pub others : (x : ℕ) → x ≢ P .owner → s′ x ≡ s x
+
+-- A whole tick: every copy ages, the slot may issue again, then the turns. P and P′ are the topology before and after; the slot turns
+-- inactive where the owner's own record is no longer live.
 pub record Full-tick (P P′ : Topology) (clock : ℕ) (S S′ : Slot) (missed : Bool) (s s′ : Holdings) : Type 0 where
   pub owner : P′ .owner ≡ P .owner
   pub aged : Holdings
-  pub reissued : Holdings
   pub ages : (x : ℕ) → Ages P′ x (s x) (aged x)
   pub stays-active : P′ .active ≡ true → (P .active ≡ true) × Live (S .last) (aged (P .owner))
   pub turns-inactive : P′ .active ≡ false → (P .active ≡ false) ⊎ Not-live (aged (P .owner))
-  pub issue : ((S′ ≡ S) × (reissued ≡ aged)) ⊎ Issue P′ P′ (suc clock) S S′ aged reissued
+  pub reissued : Holdings
+  pub reissue : ((S′ ≡ S) × (reissued ≡ aged)) ⊎ Issue P′ P′ (suc clock) S S′ aged reissued
   pub order : List (ℕ × ℕ)
   pub every : (r c : ℕ) → P′ .attached r c ≡ true → Among r c order
   pub turns : Turns P′ missed (suc clock) order reissued s′
 
--- a call that issues and withdraws nothing of this identifier
-pub record Other-call (P P′ : Topology) (s s′ : Holdings) : Type 0 where
+-- a call that issues and withdraws nothing of this identifier: circuits may come and go, and only flags on circuits that are not Q's change
+pub record Other-call (Q P P′ : Topology) (s s′ : Holdings) : Type 0 where
   pub owner : P′ .owner ≡ P .owner
   pub active : P′ .active ≡ P .active
+  pub left-alone : (x : ℕ) → Left-alone Q x (s x) (s′ x)
 
-pub data Run : Topology → ℕ → Slot → Holdings → Type 0 where
-  opened : (P : Topology) (S : Slot) → P .active ≡ false → S .last ≡ 0 → Run P 0 S (λ _. none)
-  other-call : {P P′ Q : Topology} {clock : ℕ} {S : Slot} {s s′ : Holdings} → Other-call P P′ s s′ → ((x : ℕ) → Left-alone Q x (s x) (s′ x)) → Run P clock S s → Run P′ clock S s′
-  issue : {P P′ : Topology} {clock : ℕ} {S S′ : Slot} {s s′ : Holdings} → Issue P P′ clock S S′ s s′ → Run P clock S s → Run P′ clock S′ s′
-  withdraw : {P P′ : Topology} {clock : ℕ} {S : Slot} {s s′ : Holdings} (k : Copy) → P′ .owner ≡ P .owner → P′ .active ≡ false → s′ (P .owner) ≡ held k →
-    k .rank ≡ suc (S .last + S .last) → k .lifetime ≡ 0 → ((x : ℕ) → x ≢ P .owner → s′ x ≡ s x) → Run P clock S s → Run P′ clock S s′
-  ticked : {P P′ : Topology} {clock : ℕ} {S S′ : Slot} {missed : Bool} {s s′ : Holdings} → Full-tick P P′ clock S S′ missed s s′ → Run P clock S s → Run P′ (suc clock) S′ s′
+-- any accepted call but a tick
+pub data Call (Q : Topology) (v w : View) : Type 0 where
+  other : w .clock ≡ v .clock → w .slot ≡ v .slot → Other-call Q (v .topology) (w .topology) (v .holdings) (w .holdings) → Call Q v w
+  issue : w .clock ≡ v .clock → Issue (v .topology) (w .topology) (v .clock) (v .slot) (w .slot) (v .holdings) (w .holdings) → Call Q v w
+  withdraw : w .clock ≡ v .clock → w .slot ≡ v .slot → Withdrawal (v .topology) (w .topology) (v .slot) (v .holdings) (w .holdings) →
+    Call Q v w
 
--- M ticks from clock T on, with calls between that leave the circuits of Q in service
-pub record Stretch (Q : Topology) (T M : ℕ) : Type 0 where
-  pub topology : ℕ → Topology
-  pub slot : ℕ → Slot
-  pub holdings : ℕ → Holdings
-  pub missed : ℕ → Bool
-  pub topology-before : ℕ → Topology
-  pub before-tick : ℕ → Holdings
-  pub other-calls : (k : ℕ) → k < M → Other-call (topology k) (topology-before k) (holdings k) (before-tick k)
-  pub kept-alone : (k : ℕ) → k < M → (x : ℕ) → Left-alone Q x (holdings k x) (before-tick k x)
-  pub tick : (k : ℕ) → k < M → Full-tick (topology-before k) (topology (suc k)) (T + k) (slot k) (slot (suc k)) (missed k) (before-tick k) (holdings (suc k))
-  pub keeps-circuits : (k : ℕ) → k < M → Keeps-circuits Q (topology (suc k))
+-- an accepted tick, and whether it missed a frame
+abbrev pub Ticks : Bool → View → View → Type 0
+Ticks missed v w =
+    (w .clock ≡ suc (v .clock)) ×
+    Full-tick (v .topology) (w .topology) (v .clock) (v .slot) (w .slot) missed (v .holdings) (w .holdings)
 
--- the theorem: N routers joined, at most B ticks that missed a frame, and an owner that holds n live at each clock
-abbrev pub Converges : Type 0
-Converges = (Q : Topology) (n T N B : ℕ) → 1 ≤ n → Joined Q N → (X : Stretch Q T (20 * (N + B))) → Run (X .topology 0) T (X .slot 0) (X .holdings 0) → X .topology 0 .owner ≡ Q .owner →
-  ((k : ℕ) → k ≤ 20 * (N + B) → Live n (X .holdings k (Q .owner))) → count-of (X .missed) (20 * (N + B)) ≤ B → (x : ℕ) → x < N → Live n (X .holdings (20 * (N + B)) x)
+-- the views that a network can come to, from its opening on
+pub data Run : View → Type 0 where
+  opened : {v : View} → v .topology .active ≡ false → v .clock ≡ 0 → v .slot .last ≡ 0 → ((x : ℕ) → v .holdings x ≡ none) → Run v
+  call : {Q : Topology} {v w : View} → Run v → Call Q v w → Run w
+  tick : {missed : Bool} {v w : View} → Run v → Ticks missed v w → Run w
 
--- every live record has a number that was issued, and ends with its issue
-abbrev pub Issued : Type 0
-Issued = (P : Topology) (clock : ℕ) (S : Slot) (s : Holdings) → Run P clock S s → (x : ℕ) (k : Copy) → s x ≡ held k → 1 ≤ k .lifetime →
-  (m : ℕ) × (k .rank ≡ m + m) × (1 ≤ m) × (m ≤ S .last) × (k .lifetime + clock ≡ S .ends m)
+-- A stretch of a run from v to w, in which the circuits of Q stay in service: any calls, and so many ticks, of which so many missed a frame
+pub data Stretch (Q : Topology) (v : View) : View → ℕ → ℕ → Type 0 where
+  begin : Keeps-circuits Q (v .topology) → Stretch Q v v 0 0
+  call : {w z : View} {ticks missing : ℕ} → Stretch Q v w ticks missing → Call Q w z → Keeps-circuits Q (z .topology) →
+    Stretch Q v z ticks missing
+  tick : {w z : View} {ticks missing : ℕ} {missed : Bool} → Stretch Q v w ticks missing → Ticks missed w z → Keeps-circuits Q (z .topology) →
+    Stretch Q v z (suc ticks) (missing + bit missed)

@@ -4,7 +4,9 @@ pub mod CopyTicks
 pub mod Stretches
 pub mod Hops
 pub mod CopyRuns
+pub mod Consistency
+pub mod Convergence
 pub mod Ranks
 pub mod HeardCopies
-pub mod RecordLists
+pub mod Frames
 pub mod AllIds
