@@ -1,11 +1,12 @@
--- The steps of a broadcast circuit: the designated router's CSNP, the hearer's PSNP or LSP, the designated router's or another's LSP of n.
+-- Over a broadcast circuit: after the designated router's CSNP, router v holds n, or some holder has SRM, or the designated router holds n and v is
+-- behind and will say so; v's PSNP or LSP leaves the first two cases, and the holder's LSP the first.
 use mathlib.Core.Path.{_≡_, refl, sym, subst}
 use mathlib.Core.Logic.{_≢_, _⊎_, inl, inr}
 use mathlib.Core.Bool.{true, false}
 use Prim.Native.Nat.{ℕ, suc, _+_, _%_, _≤_, _<_}
 use native.Mathlib.Omega.{arith}
 use native.Mathlib.Decide.{ℕ-discrete}
-use Rattle.flooding.specs.Copies.{Topology, Held, held, none, Holdings, Mention, copy, entry, unlisted, Live}
+use Rattle.flooding.specs.Copies.{Topology, Held, held, none, Holdings, Mention, Live}
 use Rattle.flooding.specs.Rules.{Kind, lsp, psnp, csnp, Sends, as-lsp, in-psnp, in-csnp, omits-placeholder, holds-none, Put, Heeds, Delivery, sender, hears, ignores, misses, detached}
 use Rattle.flooding.specs.CopyTicks.{Srm, Ssn, Phase, not-due, sent, Turn, turn, Tick}
 use Rattle.flooding.specs.Stretches.{In-step}
@@ -22,7 +23,7 @@ designated-heeds P c lsp = tt
 designated-heeds P c psnp = λ _. refl
 designated-heeds P c csnp = tt
 
--- a holder says n
+-- what a holder of n says is live n
 holder-says-live : {P : Topology} (n : ℕ) {r c : ℕ} {g : Kind} {w : Mention} {h h′ : Held} → 1 ≤ n → Sends P r c g w h h′ → Live n h → OneCopy.Says-live n w
 holder-says-live n p (as-lsp a b i j l) v = v
 holder-says-live n p (in-psnp a b i j l) v = v
@@ -39,15 +40,11 @@ live-dec : (n : ℕ) (h : Held) → Dec (Live n h)
 live-dec n none = no (λ z. z)
 live-dec n (held k) = ℕ-discrete (k .rank) (n + n)
 
-lsp-dec : (w : Mention) → Dec (OneCopy.Is-copy w)
-lsp-dec (copy R l C) = yes tt
-lsp-dec (entry R) = no (λ z. z)
-lsp-dec unlisted = no (λ z. z)
-
--- v holds n, or some holder on c has SRM for c
+-- v holds n, or some holder of n on circuit c has SRM there
 abbrev pub Some-pending : Topology → ℕ → ℕ → ℕ → Holdings → Type 0
 Some-pending P n c v s = Live n (s v) ⊎ ((x : ℕ) × (P .attached x c ≡ true) × Live n (s x) × Srm c (s x))
 
+-- or the designated router holds n and v is behind, e ticks at most since its wait began
 abbrev pub Behind-or-pending : Topology → ℕ → ℕ → ℕ → ℕ → Holdings → Type 0
 Behind-or-pending P n c v e s = Some-pending P n c v s ⊎ (Live n (s (P .designated c)) × Is-behind n c e (s v))
 
@@ -70,7 +67,7 @@ module _ (P : Topology) (n c v : ℕ) (broadcast : P .point-to-point c ≡ false
   pub some-pending-kept : (r d : ℕ) (g : Kind) (s s′ : Holdings) → Put P false r d g s s′ → Some-pending-in-step P n c v s → Some-pending-in-step P n c v s′
   some-pending-kept r d g s s′ p (G, k) = (put-in-step P n p G, put-some-pending p G k)
 
-  -- one that is no holder speaks on c, and the designated router is a holder
+  -- a router that does not hold n puts a frame on c, and the designated router holds n: it sets SRM
   older-put : {r : ℕ} {g : Kind} {s s′ : Holdings} → Put P false r c g s s′ → In-step P n s → Live n (s (P .designated c)) → (Live n (s r) → ⊥) → Some-pending P n c v s′
   older-put {r} {g} {s} {s′} p G l z = go (said-older P n p G)
     where
@@ -107,7 +104,7 @@ module _ (P : Topology) (n c v : ℕ) (broadcast : P .point-to-point c ≡ false
     pub behind-or-pending-kept : (r d : ℕ) (g : Kind) (s s′ : Holdings) → Put P false r d g s s′ → Behind-or-pending-in-step P n c v e s → Behind-or-pending-in-step P n c v e s′
     behind-or-pending-kept r d g s s′ p (G, k) = (put-in-step P n p G, put-behind-or-pending p G k)
 
-    -- v's turn on an even clock
+    -- v's turn at an even clock
     after-lsp : (t : ℕ) {a b : Holdings} → Phase P false t v c lsp a b → Behind-or-pending-in-step P n c v e a → Some-pending-in-step P n c v b ⊎ (In-step P n b × Live n (b (P .designated c)) × Is-behind n c e (b v) × Ssn c (b v))
     after-lsp t p (G, inl k) = inl (phase-keeps P false (Some-pending-in-step P n c v) some-pending-kept p (G, k))
     after-lsp t {a} {b} (sent i p) (G, inr (l, y)) = inl (put-in-step P n p G, older-put p G l (FallenBehind.behind-not-live n c e (a v) y))
@@ -149,14 +146,14 @@ module _ (P : Topology) (n c v : ℕ) (broadcast : P .point-to-point c ≡ false
   some-pending-ages o (inr (x, i, l, k)) = inr (x, i, aged-live P n o x l, aged-srm P n o c x l k)
 
   behind-or-pending-ages : (e : ℕ) {s a : Holdings} → e < 50 → Aged P n s a → Behind-or-pending P n c v e s → Behind-or-pending-in-step P n c v (suc e) a
-  behind-or-pending-ages e m o (inl k) = (o .good, inl (some-pending-ages o k))
-  behind-or-pending-ages e m o (inr (l, y)) = (o .good, inr (aged-live P n o (P .designated c) l, FallenBehind.behind-ages P n (o .left) c e (o .ages v) onv (o .was v) m y))
+  behind-or-pending-ages e m o (inl k) = (o .in-step, inl (some-pending-ages o k))
+  behind-or-pending-ages e m o (inr (l, y)) = (o .in-step, inr (aged-live P n o (P .designated c) l, FallenBehind.behind-ages P n (o .left) c e (o .ages v) onv (o .was v) m y))
 
   pub csnp-tick-behind : (u : ℕ) {t : ℕ} {s s′ : Holdings} → t % 10 ≡ 0 → v ≢ P .designated c → P .attached u c ≡ true → Tick P n false t s s′ → Holds P n u s → Behind-or-pending-in-step P n c v 0 s′
   csnp-tick-behind u {t} due ne onu k (G, l) =
       turns-make P false (Holds P n u) (Behind-or-pending-in-step P n c v 0) (holds-kept P n u false) (behind-or-pending-kept 0) t (P .designated c) c
       (λ a d. turn-makes P false (Holds P n u) (Behind-or-pending-in-step P n c v 0) (holds-kept P n u false) (behind-or-pending-kept 0) t (P .designated c) c csnp (csnp-makes-behind t u due ne onu))
-      (k .every (P .designated c) c onc) (k .turns) (tick-aged P n k G .good, aged-live P n (tick-aged P n k G) u l)
+      (k .every (P .designated c) c onc) (k .turns) (tick-aged P n k G .in-step, aged-live P n (tick-aged P n k G) u l)
 
   pub behind-tick : (e : ℕ) {t : ℕ} {s s′ : Holdings} → e < 50 → Tick P n false t s s′ → Behind-or-pending-in-step P n c v e s → Behind-or-pending-in-step P n c v (suc e) s′
   behind-tick e m k (G, h) = turns-keep P false (Behind-or-pending-in-step P n c v (suc e)) (behind-or-pending-kept (suc e)) (k .turns) (behind-or-pending-ages e m (tick-aged P n k G) h)

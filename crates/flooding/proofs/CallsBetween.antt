@@ -1,4 +1,4 @@
--- Ticks with calls between them, over a topology that keeps the circuits of Q in service.
+-- Calls before a tick, over a topology that keeps the circuits of Q in service: what a tick does over a circuit, such a step does.
 use mathlib.Core.Path.{_≡_, sym, _∙_, ap, subst}
 use mathlib.Core.Logic.{_≢_, _⊎_, inl, inr}
 use mathlib.Core.Bool.{Bool, true, false}

@@ -1,4 +1,4 @@
--- A copy that is behind n and will say so on a broadcast circuit.
+-- A copy that is behind: older than live n, with SSN or SRM on circuit c, and not deleted before it has said so.
 use mathlib.Core.Path.{_≡_, sym, _∙_, ap}
 use mathlib.Core.Logic.{_≢_, _⊎_, inl, inr}
 use mathlib.Core.Bool.{true}
@@ -11,7 +11,7 @@ use Rattle.flooding.specs.CopyTicks.{Ages, none-ages, live-ages, expires, wait
 use Rattle.flooding.specs.Stretches.{Conforms, Conforming}
 use Rattle.flooding.proofs.OneCopy
 
--- e ticks at most since its wait began
+-- it has no wait, or its wait of 60 began at most e ticks ago
 pub record Behind (n c e : ℕ) (k : Copy) : Type 0 where
   pub older : k .rank < n + n
   pub flag : (k .ssn c ≡ true) ⊎ (k .srm c ≡ true)
@@ -43,7 +43,7 @@ module _ (P : Topology) (n L c e : ℕ) where
       go₂ (inl a) = rw a (y .wait)
       go₂ (inr a) = fresh-wait (k′ .wait) a
 
-  -- on another circuit, or a mention that says n
+  -- the mention is on another circuit, or says live n
   abbrev Elsewhere-or-live : ℕ → Mention → Type 0
   Elsewhere-or-live d w = (d ≢ c) ⊎ ((d ≡ c) × OneCopy.Says-live n w)
 
@@ -55,7 +55,7 @@ module _ (P : Topology) (n L c e : ℕ) where
       go (no i) (inr (q, j)) = absurd (i j)
       go (no i) (inl j) = inr (record { older = rw (s .rank) (omega arith); flag = inr (s .elsewhere c (λ q. j (sym q)) o .0); wait = fresh-wait (k′ .wait) (s .wait) })
 
-  -- what remains of a copy whose flags on d alone changed
+  -- only flags on circuit d changed
   rest : (d R : ℕ) (k k′ : Copy) → Reflagged d k k′ → k′ .wait ≡ k .wait → Behind n c e k → (d ≢ c) ⊎ ((d ≡ c) × (R ≡ n + n)) → (R ≡ n + n → ⊥) → (k′ .rank ≡ n + n) ⊎ Behind n c e k′
   rest d R k k′ f w y (inl i) z = inr (reflagged-behind i f (inl w) y)
   rest d R k k′ f w y (inr (q, j)) z = absurd (z j)
@@ -87,7 +87,7 @@ module _ (P : Topology) (n L c e : ℕ) where
   behind-sends (omits-placeholder a b) ne y = y
   behind-sends (holds-none a) ne y = y
 
-  -- the CSNP of a holder
+  -- a router that hears a holder's CSNP holds n or falls behind with SSN set
   pub asks : {x : ℕ} {w : Mention} {h h′ : Held} → 1 ≤ n → Hears P x c w h h′ → OneCopy.Says-live n w → (OneCopy.Is-copy w → ⊥) → Conforming n L h → Live n h′ ⊎ Is-behind n c e h′
   asks p (own-newer a b z) t l f = absurd (l tt)
   asks p (newer-lsp a b) t l f = absurd (l tt)

@@ -1,4 +1,4 @@
--- The function is the relation.
+-- What a router makes of a mention, as a function, is an instance of the rules.
 use mathlib.Core.Path.{_≡_, refl}
 use mathlib.Core.Logic.{_≢_, _⊎_, inl, inr}
 use mathlib.Core.Bool.{Bool, true, false, cond}

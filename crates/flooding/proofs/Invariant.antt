@@ -1,4 +1,5 @@
--- What holds of one identifier from the first call on: every live record is an issue of the owner's slot, and ages with it.
+-- Each single step keeps the invariant (specs/Consistency): a put, ageing, an issue, a withdrawal. With an active slot it says that all copies are
+-- in step.
 use mathlib.Core.Path.{_≡_, refl, sym, _∙_, ap, subst}
 use mathlib.Core.Logic.{_⊎_, inl, inr}
 use mathlib.Core.Bool.{Bool, true, false}
@@ -17,7 +18,7 @@ use Rattle.flooding.specs.CopyRuns.{Slot, Issue, Withdrawal}
 use Rattle.flooding.proofs.Tests.{clash}
 
 module _ (P : Topology) (clock : ℕ) (S : Slot) where
-  -- the owner's life, and every copy's
+  -- a live copy of the last number ends with its issue
   top-life : (k : Copy) → 1 ≤ (S .last) → Allowed-copy S clock (k .rank) (k .lifetime) (k .content) → k .rank ≡ (S .last) + (S .last) → (k .lifetime + clock ≡ S .ends (S .last)) × (1 ≤ k .lifetime)
   top-life k o (inl (m, e, i, j, p, q, u)) r = let z : m ≡ (S .last) = omega arith in (q ∙ ap (S .ends) z, p)
   top-life k o (inr (l, inl e)) r = absurd (omega arith)
@@ -39,14 +40,14 @@ module _ (P : Topology) (clock : ℕ) (S : Slot) where
       go (inl z) = inr (z .0, z .1)
       go (inr (z, i)) = inl z
 
-  -- while the slot is active the holdings is good
+  -- with an active slot all are in step
   pub consistent-in-step : {s : Holdings} → Consistent P clock S s → P .active ≡ true → In-step P (S .last) s
   consistent-in-step {s} Z a = go (held-life (s (P .owner)) (Z .numbered a) (Z .allowed (P .owner)) (Z .owner-holds a))
     where
       go : (L : ℕ) × (L + clock ≡ S .ends (S .last)) × (1 ≤ L) → In-step P (S .last) s
       go (L, e, p) = record { left = L; positive = p; conforming = λ x. allowed-conforms L (s x) e (Z .numbered a) (Z .allowed x) (Z .not-newer a x); owner-holds = Z .owner-holds a }
 
-  -- honest mentions
+  -- an LSP carries what the slot issued, or a purge of it
   abbrev Allowed-mention : Mention → Type 0
   Allowed-mention (copy R l C) = Allowed-copy S clock R l C
   Allowed-mention (entry R) = Unit {0}
@@ -69,7 +70,7 @@ module _ (P : Topology) (clock : ℕ) (S : Slot) where
   sends-allowed (omits-placeholder a b) l = l
   sends-allowed (holds-none a) l = l
 
-  -- a slot that is not active answers with a purge of a number that was issued
+  -- no number above the last
   pub number-bound : (R l : ℕ) (C : Content) → Allowed-copy S clock R l C → R ≤ suc ((S .last) + (S .last))
   number-bound R l C (inl (m, e, i, j, p, q, u)) = omega arith
   number-bound R l C (inr (z, inl e)) = omega arith
@@ -199,7 +200,7 @@ module _ (P : Topology) (clock : ℕ) (S : Slot) where
       not-newer = λ a x.
         let G₀ = consistent-in-step P clock S Z (stays-active a .0) in
         let G₁ : In-step P′ (S .last) s = record { left = G₀ .left; positive = G₀ .positive; conforming = G₀ .conforming; owner-holds = subst (λ (y : ℕ). Live (S .last) (s y)) (sym o) (G₀ .owner-holds) } in
-        let G = age-in-step P′ (S .last) h (subst (λ (y : ℕ). Live (S .last) (s′ y)) (sym o) (stays-active a .1)) G₁ .good in
+        let G = age-in-step P′ (S .last) h (subst (λ (y : ℕ). Live (S .last) (s′ y)) (sym o) (stays-active a .1)) G₁ .in-step in
         conforms-not-newer P clock S (G .left) (s′ x) (G .conforming x);
       numbered = λ a. Z .numbered (stays-active a .0);
       not-live = λ a. subst (λ (y : ℕ). Not-live (s′ y)) (sym o) (elim (turns-inactive a) [ inl z ↦ ages-not-live (h (P .owner)) (Z .not-live z) | inr z ↦ z ])

@@ -1,4 +1,5 @@
--- The steps of a point-to-point circuit, and what the steps of a broadcast circuit shares with it.
+-- Over one circuit from a holder u of live n to v: after v's CSNP v holds n or u has SRM (pending); that lasts; after u's LSP v holds n. On broadcast
+-- this is so where v is the designated router, and whenever a holder has SRM.
 use mathlib.Core.Path.{_≡_}
 use mathlib.Core.Logic.{_≢_, _⊎_, inl, inr}
 use mathlib.Core.Bool.{Bool, true, false}
@@ -29,7 +30,7 @@ module _ (P : Topology) (n : ℕ) (c u v : ℕ) (onu : P .attached u c ≡ true)
   pub pending-kept : (r d : ℕ) (g : Kind) (s s′ : Holdings) → Put P false r d g s s′ → Pending-in-step P n c u v s → Pending-in-step P n c u v s′
   pending-kept r d g s s′ p (G, e) = (put-in-step P n p G, put-pending P n c u v onv one ends p G e)
 
-  -- u's turn to flood on c
+  -- u's LSPs on c
   pub lsp-makes-held : (t : ℕ) → (P .point-to-point c ≡ true → t % 5 ≡ 0) → (a d : Holdings) → Phase P false t u c lsp a d → Pending-in-step P n c u v a → Holds P n v d
   lsp-makes-held t due a d p (G, inl l) = phase-keeps P false (Holds P n v) (holds-kept P n v false) p (G, l)
   lsp-makes-held t due a d (not-due e) (G, inr (l, k)) = absurd (e (due, k))
@@ -37,7 +38,7 @@ module _ (P : Topology) (n : ℕ) (c u v : ℕ) (onu : P .attached u c ≡ true)
       let z = sends-lsp-says-live n (sender-sends (p .delivery u)) l in
       (put-in-step P n p G, lsp-reaches P n c u v onv one ends p G (z .0) (z .1))
 
-  -- v's turn to send its CSNP on c
+  -- v's CSNP on c
   pub csnp-makes-pending : (t : ℕ) → t % 10 ≡ 0 → (P .point-to-point c ≡ false → v ≡ P .designated c) → u ≢ v → (a d : Holdings) → Phase P false t v c csnp a d → Holds P n u a → Pending-in-step P n c u v d
   csnp-makes-pending t due ch ne a d (not-due e) (G, l) = absurd (e (due, ch))
   csnp-makes-pending t due ch ne a d (sent e p) (G, l) = (put-in-step P n p G, go (said-older P n p G))
@@ -48,7 +49,7 @@ module _ (P : Topology) (n : ℕ) (c u v : ℕ) (onu : P .attached u c ≡ true)
 
   -- the same of whole ticks with nothing missed
   pub pending-ages : {t : ℕ} {s s′ : Holdings} (k : Tick P n false t s s′) → Pending-in-step P n c u v s → Pending-in-step P n c u v (k .aged)
-  pending-ages {t} {s} {s′} k (G, e) = (o .good, go e)
+  pending-ages {t} {s} {s′} k (G, e) = (o .in-step, go e)
     where
       o : Aged P n s (k .aged)
       o = tick-aged P n k G
@@ -69,4 +70,4 @@ module _ (P : Topology) (n : ℕ) (c u v : ℕ) (onu : P .attached u c ≡ true)
   csnp-tick-pending {t} due ch ne k (G, l) =
       turns-make P false (Holds P n u) (Pending-in-step P n c u v) (holds-kept P n u false) pending-kept t v c
       (λ a d. turn-makes P false (Holds P n u) (Pending-in-step P n c u v) (holds-kept P n u false) pending-kept t v c csnp (csnp-makes-pending t due ch ne))
-      (k .every v c onv) (k .turns) (tick-aged P n k G .good, aged-live P n (tick-aged P n k G) u l)
+      (k .every v c onv) (k .turns) (tick-aged P n k G .in-step, aged-live P n (tick-aged P n k G) u l)

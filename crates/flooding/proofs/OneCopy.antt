@@ -1,4 +1,4 @@
--- What one put does to one copy, where no router holds anything newer than live n.
+-- What one mention does to one copy, and ageing, where nothing newer than live n stands anywhere and all copies of n have the lifetime L.
 use mathlib.Core.Path.{_≡_, refl, sym, _∙_, ap}
 use mathlib.Core.Logic.{_⊎_, inl, inr}
 use mathlib.Core.Bool.{true, false}
@@ -16,7 +16,7 @@ Says-no-newer n L (copy R l C) = (R ≤ n + n) × (R ≡ n + n → l ≡ L) × (
 Says-no-newer n L (entry R) = R ≤ n + n
 Says-no-newer n L unlisted = Unit {0}
 
--- the mention says n, live
+-- the mention is of live n
 abbrev pub Says-live : ℕ → Mention → Type 0
 Says-live n (copy R l C) = R ≡ n + n
 Says-live n (entry R) = R ≡ n + n
@@ -63,7 +63,7 @@ module _ (n L : ℕ) where
   says-live-holds (omits-placeholder a b) q = absurd q
   says-live-holds (holds-none a) q = absurd q
 
-  -- nothing fair is newer than live n
+  -- nothing that is no newer than live n is newer to its holder
   pub not-newer-than-live : (R : ℕ) (h : Held) → R ≤ n + n → Newer R h → Live n h → ⊥
   not-newer-than-live R none f w v = v
   not-newer-than-live R (held k) f w v = omega arith
@@ -105,7 +105,7 @@ module _ (n L : ℕ) where
   hears-live (unlisted-live a b d e i) f v = b .rank ∙ v
   hears-live (unlisted-purge a) f v = v
 
-  -- a router that holds n loses SRM on c only to a mention that says n: any on a point-to-point circuit, an LSP elsewhere
+  -- what clears a holder's SRM on c: a mention of live n there; on broadcast, an LSP
   abbrev pub Clears-srm : Topology → ℕ → ℕ → Mention → Type 0
   Clears-srm P c d w = (c ≡ d) × Says-live n w × ((P .point-to-point c ≡ true) ⊎ Is-copy w)
 
@@ -161,7 +161,7 @@ module _ (n L : ℕ) where
   sends-srm c (omits-placeholder a b) v s = inl s
   sends-srm c (holds-none a) v s = absurd v
 
-  -- an LSP of n puts its hearer among the holders
+  -- who hears an LSP of live n holds it
   pub hears-says-live : {P : Topology} {x c : ℕ} {w : Mention} {h h′ : Held} → 1 ≤ n → Hears P x c w h h′ → Says-live n w → Is-copy w → Says-no-newer n L w → Conforming n L h → (x ≡ P .owner → Live n h) → Live n h′
   hears-says-live p (own-newer {h = h} a b z) t l f g o = absurd (not-newer-than-live _ h (f .0) b (o a))
   hears-says-live p (newer-lsp a b) t l f g o = b .rank ∙ t
@@ -177,7 +177,7 @@ module _ (n L : ℕ) where
   hears-says-live p (unlisted-live a b d e i) t l f g o = absurd l
   hears-says-live p (unlisted-purge a) t l f g o = absurd l
 
-  -- a mention of a router that does not hold n has a holder set SRM
+  -- a holder that hears of something older, or is not listed, sets SRM
   abbrev pub Says-older : Mention → Type 0
   Says-older (copy R l C) = R < n + n
   Says-older (entry R) = R < n + n
@@ -198,7 +198,7 @@ module _ (n L : ℕ) where
   hears-older p (unlisted-live a b d e i) l f g v = i
   hears-older p (unlisted-purge {k = k} a) l f g v = let z = g .lifetime-in-step v in absurd (omega arith)
 
-  -- who speaks holds n, or says something low
+  -- a sender holds n, or says something older
   rank-older : (R : ℕ) → R ≤ n + n → (R ≡ n + n) ⊎ (R < n + n)
   rank-older R h = go (ℕ-discrete R (n + n))
     where
@@ -228,8 +228,8 @@ module _ (n L : ℕ) where
   ages-srm c p (wait-falls {k = k} a b d e i j) f v s = let z = f .lifetime-in-step v in absurd (omega arith)
   ages-srm c p (deleted {k = k} a b) f v s = let z = f .lifetime-in-step v in absurd (omega arith)
 
-  dies-conforms : (k k′ : Copy) → 1 ≤ L → Conforms n (suc L) k → k .lifetime ≡ 1 → k′ .lifetime ≡ 0 → k′ .rank ≡ suc (k .rank) → Conforms n L k′
-  dies-conforms k k′ p f a b d = go (f .form)
+  expired-conforms : (k k′ : Copy) → 1 ≤ L → Conforms n (suc L) k → k .lifetime ≡ 1 → k′ .lifetime ≡ 0 → k′ .rank ≡ suc (k .rank) → Conforms n L k′
+  expired-conforms k k′ p f a b d = go (f .form)
     where
       go : (k .lifetime ≡ 0) ⊎ ((j : ℕ) × (k .rank ≡ j + j)) → Conforms n L k′
       go (inl z) = absurd (omega arith)
@@ -250,7 +250,7 @@ module _ (n L : ℕ) where
       go : (k .lifetime ≡ 0) ⊎ ((j : ℕ) × (k .rank ≡ j + j)) → (k′ .lifetime ≡ 0) ⊎ ((j : ℕ) × (k′ .rank ≡ j + j))
       go (inl z) = absurd (omega arith)
       go (inr (j, q)) = inr (j, d ∙ q)
-  ages-conforms p (expires {k = k} {k′ = k′} a b d e i j) f = dies-conforms k k′ p f a b d
+  ages-conforms p (expires {k = k} {k′ = k′} a b d e i j) f = expired-conforms k k′ p f a b d
   ages-conforms p (wait-falls {k = k} {k′ = k′} a b d e i j) f = record {
       not-newer = rw i (f .not-newer);
       lifetime-in-step = λ q. let z = f .lifetime-in-step (sym i ∙ q) in absurd (omega arith);

@@ -1,4 +1,5 @@
--- What one put does to the holdings, where the owner holds live n.
+-- What one put with its deliveries does, where all are in step: they stay so, holders stay holders, an LSP of live n reaches every end, and
+-- what is pending over a circuit stays pending until it is delivered.
 use mathlib.Core.Path.{_≡_, refl, sym, _∙_, ap, subst}
 use mathlib.Core.Logic.{_≢_, _⊎_, inl, inr}
 use mathlib.Core.Bool.{Bool, true, false}
@@ -68,7 +69,7 @@ lsp-heeds x (in-csnp a b) l = absurd l
 lsp-heeds x (omits-placeholder a b) l = absurd l
 lsp-heeds x (holds-none a) l = absurd l
 
--- v holds n, or u does and has SRM for c
+-- v holds n, or u holds it and has SRM on circuit c
 abbrev pub Pending : ℕ → ℕ → ℕ → ℕ → Holdings → Type 0
 Pending n c u v s = Live n (s v) ⊎ (Live n (s u) × Srm c (s u))
 

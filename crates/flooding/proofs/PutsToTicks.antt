@@ -1,4 +1,5 @@
--- From puts to turns to ticks: what every put keeps, a tick keeps; what a part of a router's turn brings about, the tick does.
+-- From puts to turns to ticks: what every put keeps, the turns keep; what one phase of a router's turn brings about, the turns bring about; ageing
+-- leaves all in step.
 use mathlib.Core.Path.{_≡_, sym, _∙_, subst}
 use mathlib.Core.Bool.{Bool}
 use mathlib.Core.List.{List}
@@ -37,7 +38,7 @@ module _ (P : Topology) (b : Bool) (Q R : Holdings → Type 0)
   turns-make hit first (then x y) q = turns-keep P b R keepR y (hit _ _ x q)
   turns-make hit (later i) (then x y) q = turns-make hit i y (turn-keeps P b Q keepQ x q)
 
--- ageing leaves the holdings good, with one less to live
+-- the lifetime of n after ageing
 age-left : (P : Topology) (n L x : ℕ) {h h′ : Held} → 1 ≤ L → Ages P x h h′ → Conforming n L h → Live n h → Live n h′ → (m : ℕ) × (L ≡ suc m) × (1 ≤ m)
 age-left P n L x p none-ages f v w = absurd v
 age-left P n L x p (live-ages {k′ = k} a b d e i u) f v w = (k .lifetime, sym (f .lifetime-in-step v) ∙ a, b)
@@ -45,12 +46,12 @@ age-left P n L x p (expires {k = k} {k′ = k′} a b d e i j) f v w = absurd (o
 age-left P n L x p (wait-falls {k = k} a b d e i j) f v w = let z = f .lifetime-in-step v in absurd (omega arith)
 age-left P n L x p (deleted a b) f v w = absurd w
 
--- what one knows of the ageing of a good holdings
+-- what is known of ageing where all are in step
 pub record Aged (P : Topology) (n : ℕ) (s s′ : Holdings) : Type 0 where
   pub left : ℕ
   pub positive : 1 ≤ left
   pub was : (x : ℕ) → Conforming n (suc left) (s x)
-  pub good : In-step P n s′
+  pub in-step : In-step P n s′
   pub ages : (x : ℕ) → Ages P x (s x) (s′ x)
 
 module _ (P : Topology) (n : ℕ) where
@@ -62,7 +63,7 @@ module _ (P : Topology) (n : ℕ) where
           let f : (x : ℕ) → Conforming n (suc m) (s x) = λ x. subst (λ (L : ℕ). Conforming n L (s x)) e (G .conforming x) in
           record {
             left = m; positive = p; was = f; ages = h;
-            good = record { left = m; positive = p; conforming = λ x. OneCopy.ages-conforms n m p (h x) (f x); owner-holds = k }
+            in-step = record { left = m; positive = p; conforming = λ x. OneCopy.ages-conforms n m p (h x) (f x); owner-holds = k }
           }
 
   pub aged-live : {s a : Holdings} → Aged P n s a → (x : ℕ) → Live n (s x) → Live n (a x)
@@ -74,11 +75,11 @@ module _ (P : Topology) (n : ℕ) where
   pub tick-aged : {b : Bool} {t : ℕ} {s s′ : Holdings} → (k : Tick P n b t s s′) → In-step P n s → Aged P n s (k .aged)
   tick-aged k G = age-in-step (k .ages) (k .owner-keeps) G
 
-  -- a tick, missed frames or none, keeps the holdings good and every holder a holder
+  -- a tick, whether it misses frames or not, leaves all in step and every holder a holder
   pub tick-in-step : {b : Bool} {t : ℕ} {s s′ : Holdings} → Tick P n b t s s′ → In-step P n s → In-step P n s′
-  tick-in-step {b} k G = turns-keep P b (In-step P n) (λ r c g s s′ p q. put-in-step P n p q) (k .turns) (tick-aged k G .good)
+  tick-in-step {b} k G = turns-keep P b (In-step P n) (λ r c g s s′ p q. put-in-step P n p q) (k .turns) (tick-aged k G .in-step)
 
   pub tick-live : {b : Bool} {t : ℕ} {s s′ : Holdings} → Tick P n b t s s′ → In-step P n s → (x : ℕ) → Live n (s x) → Live n (s′ x)
   tick-live {b} k G x v =
       turns-keep P b (λ s. In-step P n s × Live n (s x)) (λ r c g s s′ p q. (put-in-step P n p (q .0), put-live P n p (q .0) x (q .1))) (k .turns)
-      (tick-aged k G .good, aged-live (tick-aged k G) x v) .1
+      (tick-aged k G .in-step, aged-live (tick-aged k G) x v) .1

@@ -4,7 +4,7 @@ use mathlib.Core.Logic.{_≢_, _⊎_, inl, inr}
 use mathlib.Core.Bool.{Bool, true, false}
 use Prim.Native.Nat.{ℕ, zero, suc, _+_, _*_, _-_, _%_, _≤_, _<_}
 use native.Mathlib.Omega.{arith}
-use native.Mathlib.Nat.{add-zero, add-suc, mul-zero, mul-suc}
+use native.Mathlib.Nat.{add-zero, add-suc, mul-suc}
 use native.Mathlib.Decide.{ℕ-discrete}
 use Rattle.flooding.specs.Copies.{Topology, Live}
 use Rattle.flooding.specs.Stretches.{Held-stretch, Step, In-step, count-of}
@@ -101,10 +101,6 @@ module _ (Q : Topology) (n T M W : ℕ) (X : Held-stretch Q n T M) (G : In-step 
   -- the ticks of the first w windows
   ticks : ℕ → ℕ
   ticks w = W * w
-
-  ticks-none : ticks 0 ≡ 0
-  unfolding ticks
-  ticks-none = mul-zero W
 
   ticks-more : (w : ℕ) → ticks (suc w) ≡ ticks w + W
   unfolding ticks
