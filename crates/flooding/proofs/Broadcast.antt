@@ -55,7 +55,6 @@ abbrev pub Behind-or-pending-in-step : Topology → ℕ → ℕ → ℕ → ℕ 
 Behind-or-pending-in-step P n c v e s = In-step P n s × Behind-or-pending P n c v e s
 
 module _ (P : Topology) (n c v : ℕ) (broadcast : P .point-to-point c ≡ false) (onv : P .attached v c ≡ true) (onc : P .attached (P .designated c) c ≡ true) (one : 1 ≤ n) where
-
   put-some-pending : {r d : ℕ} {g : Kind} {s s′ : Holdings} → Put P false r d g s s′ → In-step P n s → Some-pending P n c v s → Some-pending P n c v s′
   put-some-pending p G (inl l) = inl (put-live P n p G v l)
   put-some-pending {s′ = s′} p G (inr (x, o, l, k)) = go (put-pending P n c x v onv one (λ z. clash z broadcast) p G (inr (l, k)))
@@ -73,6 +72,7 @@ module _ (P : Topology) (n c v : ℕ) (broadcast : P .point-to-point c ≡ false
     where
       ne : P .designated c ≢ r
       ne q = z (subst (λ (y : ℕ). Live n (s y)) q l)
+
       go : Live n (s r) ⊎ OneCopy.Says-older n (G .left) (p .mention) → Some-pending P n c v s′
       go (inl a) = absurd (z a)
       go (inr a) = inr (P .designated c, onc, put-live P n p G (P .designated c) l, OneCopy.hears-older n (G .left) (G .positive) (must-hear (p .delivery (P .designated c)) ne onc (designated-heeds P c g)) a (says-no-newer P n p G) (G .conforming (P .designated c)) l)
@@ -94,8 +94,10 @@ module _ (P : Topology) (n c v : ℕ) (broadcast : P .point-to-point c ≡ false
         wrap : Live n (s′ v) ⊎ Is-behind n c e (s′ v) → Behind-or-pending P n c v e s′
         wrap (inl a) = inl (inl a)
         wrap (inr a) = inr (put-live P n p G (P .designated c) l, a)
+
         ne : Live n (s r) → v ≢ r
         ne a q = FallenBehind.behind-not-live n c e (s v) y (subst (λ (z : ℕ). Live n (s z)) (sym q) a)
+
         go : Dec (d ≡ c) → Dec (Live n (s r)) → Behind-or-pending P n c v e s′
         go (no i) a = wrap (delivery-behind (G .left) (p .delivery v) (says-no-newer P n p G) (owns P n p G v) (inl i) y)
         go (yes i) (yes a) = wrap (delivery-behind (G .left) (p .delivery v) (says-no-newer P n p G) (owns P n p G v) (inr (i, holder-says-live n one (sender-sends (p .delivery r)) a, ne a)) y)
@@ -119,7 +121,7 @@ module _ (P : Topology) (n c v : ℕ) (broadcast : P .point-to-point c ≡ false
             go (inr q) = absurd (k q)
 
     after-psnp : (t : ℕ) {a b : Holdings} → t % 2 ≡ 0 → v ≢ P .designated c → Phase P false t v c psnp a b →
-      Some-pending-in-step P n c v a ⊎ (In-step P n a × Live n (a (P .designated c)) × Is-behind n c e (a v) × Ssn c (a v)) → Some-pending-in-step P n c v b
+        Some-pending-in-step P n c v a ⊎ (In-step P n a × Live n (a (P .designated c)) × Is-behind n c e (a v) × Ssn c (a v)) → Some-pending-in-step P n c v b
     after-psnp t due ne p (inl k) = phase-keeps P false (Some-pending-in-step P n c v) some-pending-kept p k
     after-psnp t due ne (not-due i) (inr (G, l, y, k)) = absurd (i (due, (λ _. ne), k))
     after-psnp t {a} due ne (sent i p) (inr (G, l, y, k)) = (put-in-step P n p G, older-put p G l (FallenBehind.behind-not-live n c e (a v) y))
@@ -135,6 +137,7 @@ module _ (P : Topology) (n c v : ℕ) (broadcast : P .point-to-point c ≡ false
       wrap : Live n (a (P .designated c)) → Live n (d v) ⊎ Is-behind n c 0 (d v) → Behind-or-pending P n c v 0 d
       wrap k (inl z) = inl (inl z)
       wrap k (inr z) = inr (put-live P n p G (P .designated c) k, z)
+
       go : Dec (Live n (a (P .designated c))) → Live n (a (P .designated c)) ⊎ OneCopy.Says-older n (G .left) (p .mention) → Behind-or-pending P n c v 0 d
       go (yes k) z = wrap k (FallenBehind.asks P n (G .left) c 0 one (must-hear (p .delivery v) ne onv tt) (holder-says-live n one (sender-sends (p .delivery (P .designated c))) k) (csnp-no-copy (sender-sends (p .delivery (P .designated c)))) (G .conforming v))
       go (no k) (inl z) = absurd (k z)

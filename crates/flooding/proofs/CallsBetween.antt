@@ -35,10 +35,11 @@ left-alone-behind n c s o (held-kept {k = k} {k′ = k′} a b d e u) y = record
 module _ (Q : Topology) (n : ℕ) {b : Bool} {t : ℕ} {s s′ : Holdings} (k : Step Q n b t s s′) where
   in-step-in : In-step Q n s → In-step (k .topology) n (k .before-tick)
   in-step-in G = record {
-      left = G .left; positive = G .positive;
-      conforming = λ x. left-alone-conforms n (G .left) (k .left-alone x) (G .conforming x);
-      owner-holds = subst (λ (y : ℕ). Live n (k .before-tick y)) (sym (k .keeps-circuits .owner)) (left-alone-live n (k .left-alone (Q .owner)) (G .owner-holds))
-    }
+    left = G .left;
+    positive = G .positive;
+    conforming = λ x. left-alone-conforms n (G .left) (k .left-alone x) (G .conforming x);
+    owner-holds = subst (λ (y : ℕ). Live n (k .before-tick y)) (sym (k .keeps-circuits .owner)) (left-alone-live n (k .left-alone (Q .owner)) (G .owner-holds));
+  }
 
   in-step-out : In-step (k .topology) n s′ → In-step Q n s′
   in-step-out G = record { left = G .left; positive = G .positive; conforming = G .conforming; owner-holds = subst (λ (y : ℕ). Live n (s′ y)) (k .keeps-circuits .owner) (G .owner-holds) }
@@ -50,8 +51,7 @@ module _ (Q : Topology) (n : ℕ) {b : Bool} {t : ℕ} {s s′ : Holdings} (k : 
   step-live G x l = tick-live (k .topology) n (k .tick) (in-step-in G) x (left-alone-live n (k .left-alone x) l)
 
 module _ (Q : Topology) (n c u v : ℕ) (onu : Q .attached u c ≡ true) (onv : Q .attached v c ≡ true) (one : 1 ≤ n)
-  (ends : Q .point-to-point c ≡ true → (r : ℕ) → Q .attached r c ≡ true → (r ≡ u) ⊎ (r ≡ v)) where
-
+    (ends : Q .point-to-point c ≡ true → (r : ℕ) → Q .attached r c ≡ true → (r ≡ u) ⊎ (r ≡ v)) where
   module _ {t : ℕ} {s s′ : Holdings} (k : Step Q n false t s s′) where
     on-in : (x : ℕ) → Q .attached x c ≡ true → k .topology .attached x c ≡ true
     on-in x o = k .keeps-circuits .attached c u onu x ∙ o
@@ -79,7 +79,7 @@ module _ (Q : Topology) (n c u v : ℕ) (onu : Q .attached u c ≡ true) (onv : 
     pub csnp-step-pending : t % 10 ≡ 0 → (Q .point-to-point c ≡ false → v ≡ Q .designated c) → u ≢ v → Holds Q n u s → Pending-in-step Q n c u v s′
     csnp-step-pending due ch ne (G, l) =
         let q = csnp-tick-pending (k .topology) n c u v (on-in u onu) (on-in v onv) one ends-in due (λ z. ch (sym point-to-point-in ∙ z) ∙ sym (k .keeps-circuits .designated c u onu)) ne (k .tick)
-              (in-step-in Q n k G, left-alone-live n (k .left-alone u) l) in
+        (in-step-in Q n k G, left-alone-live n (k .left-alone u) l) in
         (in-step-out Q n k (q .0), q .1)
 
 module _ (Q : Topology) (n c v : ℕ) (broadcast : Q .point-to-point c ≡ false) (onv : Q .attached v c ≡ true) (onc : Q .attached (Q .designated c) c ≡ true) (one : 1 ≤ n) where

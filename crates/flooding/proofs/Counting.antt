@@ -36,12 +36,12 @@ pub count-grows : (f g : ℕ → Bool) (m : ℕ) → ((x : ℕ) → f x ≡ true
 unfolding count-of
 count-grows f g zero h v i a b = absurd (omega arith)
 count-grows f g (suc m) h v i a b = elim (ℕ-discrete v m) [
-    yes e ↦
-        let p : bit (f m) ≡ 0 = ap bit (ap f (sym e) ∙ a) in
-        let q : bit (g m) ≡ 1 = ap bit (ap g (sym e) ∙ b) in
-        omega (arith, count-mono f g m h)
+  | yes e ↦
+      let p : bit (f m) ≡ 0 = ap bit (ap f (sym e) ∙ a) in
+      let q : bit (g m) ≡ 1 = ap bit (ap g (sym e) ∙ b) in
+      omega (arith, count-mono f g m h)
   | no e ↦ omega (arith, count-grows f g m h v (omega arith) a b, bit-mono (f m) (g m) (h m))
-  ]
+]
 
 pub count-up : (f : ℕ → Bool) (m d : ℕ) → count-of f m ≤ count-of f (m + d)
 unfolding count-of
@@ -55,6 +55,6 @@ count-flat f m zero h j a b = absurd (omega arith)
 count-flat f m (suc d) h j a b =
     let e : count-of f (m + d) + bit (f (m + d)) ≡ count-of f m = rw add-suc at h in
     elim (ℕ-discrete j (m + d)) [
-      yes i ↦ ap f i ∙ bit-none (f (m + d)) (omega (arith, count-up f m d))
-    | no i ↦ count-flat f m d (omega (arith, count-up f m d)) j a (omega arith)
+      | yes i ↦ ap f i ∙ bit-none (f (m + d)) (omega (arith, count-up f m d))
+      | no i ↦ count-flat f m d (omega (arith, count-up f m d)) j a (omega arith)
     ]

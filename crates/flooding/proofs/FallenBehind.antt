@@ -36,9 +36,11 @@ module _ (P : Topology) (n L c e : ℕ) where
     where
       ne : c ≢ d
       ne q = i (sym q)
+
       go : (k .ssn c ≡ true) ⊎ (k .srm c ≡ true) → (k′ .ssn c ≡ true) ⊎ (k′ .srm c ≡ true)
       go (inl a) = inl (f .ssn c ne ∙ a)
       go (inr a) = inr (f .srm c ne ∙ a)
+
       go₂ : (k′ .wait ≡ k .wait) ⊎ ((k′ .wait ≡ 0) ⊎ (k′ .wait ≡ 60)) → (k′ .wait ≡ 0) ⊎ (60 ≤ k′ .wait + e)
       go₂ (inl a) = rw a (y .wait)
       go₂ (inr a) = fresh-wait (k′ .wait) a
@@ -117,6 +119,7 @@ module _ (P : Topology) (n L c e : ℕ) where
       go : (k .ssn c ≡ true) ⊎ (k .srm c ≡ true) → (k′ .ssn c ≡ true) ⊎ (k′ .srm c ≡ true)
       go (inl z) = inl (q c .1 ∙ z)
       go (inr z) = inr (q c .0 ∙ z)
+
       go₂ : (k .wait ≡ 0) ⊎ (60 ≤ k .wait + e) → (k′ .wait ≡ 0) ⊎ (60 ≤ k′ .wait + suc e)
       go₂ (inl z) = inl (j ∙ z)
       go₂ (inr z) = inr (omega arith)
@@ -126,6 +129,7 @@ module _ (P : Topology) (n L c e : ℕ) where
       go : (k .ssn c ≡ true) ⊎ (k .srm c ≡ true) → (k′ .ssn c ≡ true) ⊎ (k′ .srm c ≡ true)
       go (inl z) = inl (l c .1 ∙ z)
       go (inr z) = inr (l c .0 ∙ z)
+
       go₂ : (k .wait ≡ 0) ⊎ (60 ≤ k .wait + e) → (k′ .wait ≡ 0) ⊎ (60 ≤ k′ .wait + suc e)
       go₂ (inl z) = absurd (omega arith)
       go₂ (inr z) = inr (omega arith)

@@ -21,9 +21,9 @@ module _ (D : ℕ → Type 0) (j : ℕ) where
   ranges-once : {lo : ℕ} {fs : List Frame} → In-ranges D lo fs → lo ≤ j → D j → Mentions-once j fs
   ranges-once (no-more z) h d = absurd (z j h d)
   ranges-once (range next l a m q) h d = elim (decLt j next) [
-      yes i ↦ let w = a j h i d in in-first (w .0) (w .1) (ranges-past q i)
+    | yes i ↦ let w = a j h i d in in-first (w .0) (w .1) (ranges-past q i)
     | no i ↦ let k : next ≤ j = omega arith in in-later (m j (inr (inl k))) (ranges-once q k d)
-    ]
+  ]
 
 pub ranges-mention-once : Ranges-mention-once
 ranges-mention-once lo top fs r j = (ranges-once (λ i. i < top) j r, λ h. ranges-never (λ i. i < top) j r (λ q. omega arith))
@@ -90,10 +90,12 @@ parts-in-ranges lo (cut-more part rest {f = f} c p) r =
     pick : (B : Bound lo part rest) (j : ℕ) → j < B .next → In j part ⊎ In j rest → In j part
     pick B j i (inl q) = q
     pick B j i (inr q) = let z = rise-in (B .rest) q in absurd (omega arith)
+
     beyond : (B : Bound lo part rest) (j : ℕ) → (j < lo) ⊎ ((B .next ≤ j) ⊎ (In j (part ++ rest) → ⊥)) → In j part → ⊥
     beyond B j (inl z) q = let y = rise-in r (in-left part rest q) in omega arith
     beyond B j (inr (inl z)) q = let y = B .below j q in omega arith
     beyond B j (inr (inr z)) q = z (in-left part rest q)
+
     back : (B : Bound lo part rest) (i : ℕ) → B .next ≤ i → In i part ⊎ In i rest → In i rest
     back B i h (inl q) = let y = B .below i q in absurd (omega arith)
     back B i h (inr q) = q

@@ -20,7 +20,7 @@ data Forward (Q : Topology) : View → View → ℕ → ℕ → Type 0 where
   nothing : {v : View} → Forward Q v v 0 0
   call-first : {v w z : View} {m d : ℕ} → Call Q v w → Forward Q w z m d → Forward Q v z m d
   tick-first : {v w z : View} {m d : ℕ} {b : Bool} → Ticks b v w → Keeps-circuits Q (w .topology) → Forward Q w z m d →
-    Forward Q v z (suc m) (bit b + d)
+      Forward Q v z (suc m) (bit b + d)
 
 turned : {Q : Topology} {v w z : View} {m d m′ d′ : ℕ} → Stretch Q v w m d → Forward Q w z m′ d′ → Forward Q v z (m + m′) (d + d′)
 turned {m′ = m′} {d′ = d′} (begin k) r = rw (zero-add m′, zero-add d′) r
@@ -36,9 +36,9 @@ forward {Q} {v} {w} {m} {d} y = subst (λ (i : ℕ). Forward Q v w i d) (add-zer
 -- numbers only rise
 tick-last : {b : Bool} {v w : View} → Ticks b v w → v .slot .last ≤ w .slot .last
 tick-last {b} {v} {w} (e, f) = elim (f .reissue) [
-    inl q ↦ let z : w .slot .last ≡ v .slot .last = ap (λ (S : Slot). S .last) (q .0) in omega arith
+  | inl q ↦ let z : w .slot .last ≡ v .slot .last = ap (λ (S : Slot). S .last) (q .0) in omega arith
   | inr i ↦ let z = i .last in omega arith
-  ]
+]
 
 call-last : {Q : Topology} {v w : View} → Call Q v w → v .slot .last ≤ w .slot .last
 call-last {Q} {v} {w} (other e f o) = let z : w .slot .last ≡ v .slot .last = ap (λ (S : Slot). S .last) f in omega arith
@@ -52,7 +52,7 @@ last-rises (tick-first t k r) = omega (arith, tick-last t, last-rises r)
 
 -- an inactive slot stays so, or issues
 stays-inactive : {Q : Topology} {v z : View} {m d : ℕ} → v .topology .active ≡ false → Forward Q v z m d →
-  (z .topology .active ≡ false) ⊎ (v .slot .last < z .slot .last)
+    (z .topology .active ≡ false) ⊎ (v .slot .last < z .slot .last)
 stays-inactive a nothing = inl a
 stays-inactive a (call-first (other e f o) r) =
     elim (stays-inactive (o .active ∙ a) r) [ inl i ↦ inl i | inr i ↦ inr (omega (arith, call-last (other e f o))) ]
@@ -60,9 +60,9 @@ stays-inactive a (call-first (issue e i) r) = let q = i .last in inr (omega (ari
 stays-inactive {Q} a (call-first (withdraw e f i) r) =
     elim (stays-inactive (i .inactive) r) [ inl j ↦ inl j | inr j ↦ inr (omega (arith, call-last {Q = Q} (withdraw e f i))) ]
 stays-inactive {Q} {v} {z} a (tick-first {w = w} t k r) = elim (outcome (w .topology .active)) [
-    is-true b ↦ clash (t .1 .stays-active b .0) a
+  | is-true b ↦ clash (t .1 .stays-active b .0) a
   | is-false b ↦ elim (stays-inactive b r) [ inl e ↦ inl e | inr e ↦ inr (omega (arith, tick-last t)) ]
-  ]
+]
 
 left-alone-trans : {Q : Topology} {x : ℕ} {a b c : Held} → Left-alone Q x a b → Left-alone Q x b c → Left-alone Q x a c
 left-alone-trans none-kept q = q
@@ -94,17 +94,19 @@ module _ (Q : Topology) (n : ℕ) where
   along-none : {T : ℕ} {s e : Holdings} → ((x : ℕ) → Left-alone Q x (s x) (e x)) → Along Q n T 0 0 s e
   unfolding count-of
   along-none {T} {s} {e} h = record {
-      stretch = record { holdings = λ _. s; missed = λ _. false; tick = λ k i. absurd (omega arith) };
-      starts = refl; counted = refl; ends = h
-    }
+    stretch = record { holdings = λ _. s; missed = λ _. false; tick = λ k i. absurd (omega arith) };
+    starts = refl;
+    counted = refl;
+    ends = h;
+  }
 
   along-more : {T m d : ℕ} {b : Bool} {s a e : Holdings} → Step Q n b (suc T) s a → Along Q n (suc T) m d a e → Along Q n T (suc m) (bit b + d) s e
   along-more {T} {m} {d} {b} {s} {a} {e} k r = record {
-      stretch = record { holdings = front s (r .stretch .holdings); missed = front b (r .stretch .missed); tick = at };
-      starts = refl;
-      counted = count-front b (r .stretch .missed) m ∙ ap (λ (i : ℕ). bit b + i) (r .counted);
-      ends = r .ends
-    }
+    stretch = record { holdings = front s (r .stretch .holdings); missed = front b (r .stretch .missed); tick = at };
+    starts = refl;
+    counted = count-front b (r .stretch .missed) m ∙ ap (λ (i : ℕ). bit b + i) (r .counted);
+    ends = r .ends;
+  }
     where
       at : (i : ℕ) → i < suc m → Step Q n (front b (r .stretch .missed) i) (T + suc i) (front s (r .stretch .holdings) i) (r .stretch .holdings i)
       at zero h =
@@ -118,12 +120,12 @@ module _ (Q : Topology) (n : ℕ) where
   module _ {z : View} (za : z .topology .active ≡ true) (zn : z .slot .last ≡ n) where
     stays-active : {v : View} {m d : ℕ} → n ≤ v .slot .last → Forward Q v z m d → v .topology .active ≡ true
     stays-active {v} i r = elim (outcome (v .topology .active)) [
-        is-true a ↦ a
+      | is-true a ↦ a
       | is-false a ↦ elim (stays-inactive a r) [ inl e ↦ clash za e | inr e ↦ absurd (omega arith) ]
-      ]
+    ]
 
     along : {v : View} {m d : ℕ} → Forward Q v z m d → (s : Holdings) → ((x : ℕ) → Left-alone Q x (s x) (v .holdings x)) → v .slot .last ≡ n →
-      Along Q n (v .clock) m d s (z .holdings)
+        Along Q n (v .clock) m d s (z .holdings)
     along nothing s h l = along-none h
     along {v} {m} {d} (call-first {w = w} (other e f o) r) s h l =
         let q : w .slot .last ≡ n = ap (λ (S : Slot). S .last) f ∙ l in
@@ -139,25 +141,32 @@ module _ (Q : Topology) (n : ℕ) where
         let g : f .reissued ≡ f .aged = elim (f .reissue) [ inl i ↦ i .1 | inr i ↦ let y = i .last in absurd (omega arith) ] in
         let u : Live n (f .aged (v .topology .owner)) = subst (λ (y : ℕ). Live y (f .aged (v .topology .owner))) l (f .stays-active a .1) in
         let step : Step Q n b (suc (v .clock)) s (w .holdings) = record {
-                topology = w .topology; keeps-circuits = k; before-tick = v .holdings; left-alone = h;
-                tick = record {
-                    aged = f .aged; ages = f .ages; owner-keeps = subst (λ (y : ℕ). Live n (f .aged y)) (sym (f .owner)) u;
-                    order = f .order; every = f .every;
-                    turns = subst (λ (y : Holdings). Turns (w .topology) b (suc (v .clock)) (f .order) y (w .holdings)) g (f .turns)
-                  }
-              } in
+          topology = w .topology;
+          keeps-circuits = k;
+          before-tick = v .holdings;
+          left-alone = h;
+          tick = record {
+            aged = f .aged;
+            ages = f .ages;
+            owner-keeps = subst (λ (y : ℕ). Live n (f .aged y)) (sym (f .owner)) u;
+            order = f .order;
+            every = f .every;
+            turns = subst (λ (y : Holdings). Turns (w .topology) b (suc (v .clock)) (f .order) y (w .holdings)) g (f .turns);
+          };
+        } in
         along-more step (subst (λ (T : ℕ). Along Q n T m d (w .holdings) (z .holdings)) (t .0) (along r (w .holdings) (λ x. left-alone-refl (w .holdings x)) q))
 
 -- an owner that holds n live has an active slot, whose last number n is
 pub active-with : {P : Topology} {clock : ℕ} {S : Slot} {s : Holdings} (n : ℕ) → 1 ≤ n → Consistent P clock S s → Live n (s (P .owner)) → (P .active ≡ true) × (S .last ≡ n)
 active-with {P} {clock} {S} {s} n one Z l = elim (outcome (P .active)) [
-    is-true a ↦ (a, same (s (P .owner)) (Z .owner-holds a) l)
+  | is-true a ↦ (a, same (s (P .owner)) (Z .owner-holds a) l)
   | is-false a ↦ absurd (ended (s (P .owner)) (Z .allowed (P .owner)) l (Z .not-live a))
-  ]
+]
   where
     same : (h : Held) → Live (S .last) h → Live n h → S .last ≡ n
     same none a b = absurd a
     same (held k) a b = omega arith
+
     ended : (h : Held) → Allowed S clock h → Live n h → Not-live h → ⊥
     ended none a l e = l
     ended (held k) (inl (m, q, i, j, z, y, u)) l e = omega arith
@@ -196,5 +205,5 @@ module _ {Q : Topology} {v w : View} {m d n : ℕ} {k : Copy} (y : Stretch Q v w
   in-step-at-start =
       let a = active-with n (H .numbered) Z live-start in
       let G : In-step (v .topology) n (v .holdings) =
-            subst (λ (i : ℕ). In-step (v .topology) i (v .holdings)) (a .1) (consistent-in-step (v .topology) (v .clock) (v .slot) Z (a .0)) in
+      subst (λ (i : ℕ). In-step (v .topology) i (v .holdings)) (a .1) (consistent-in-step (v .topology) (v .clock) (v .slot) Z (a .0)) in
       record { left = G .left; positive = G .positive; conforming = G .conforming; owner-holds = rw (H .at-start) (H .number-at-start) }

@@ -31,10 +31,10 @@ module _ (P : Topology) (clock : ℕ) (S : Slot) where
   allowed-conforms : (L : ℕ) (h : Held) → L + clock ≡ S .ends (S .last) → 1 ≤ (S .last) → Allowed S clock h → Not-newer (S .last) h → Conforming (S .last) L h
   allowed-conforms L none e o l m = tt
   allowed-conforms L (held k) e o l m = record {
-      not-newer = m;
-      lifetime-in-step = λ q. let t = top-life k o l q in omega arith;
-      form = go l
-    }
+    not-newer = m;
+    lifetime-in-step = λ q. let t = top-life k o l q in omega arith;
+    form = go l;
+  }
     where
       go : Allowed-copy S clock (k .rank) (k .lifetime) (k .content) → (k .lifetime ≡ 0) ⊎ ((j : ℕ) × (k .rank ≡ j + j))
       go (inl z) = inr (z .0, z .1)
@@ -97,7 +97,7 @@ module _ (P : Topology) (clock : ℕ) (S : Slot) where
   stored-allowed b (inr w) = inr (rw (b .rank, b .lifetime) w)
 
   hears-allowed : {x c : ℕ} {w : Mention} {h h′ : Held} → Hears P x c w h h′ → Allowed-mention w → Allowed S clock h →
-    (x ≡ P .owner → P .active ≡ true → (L : ℕ) × OneCopy.Says-no-newer (S .last) L w × Live (S .last) h) → Allowed S clock h′
+      (x ≡ P .owner → P .active ≡ true → (L : ℕ) × OneCopy.Says-no-newer (S .last) L w × Live (S .last) h) → Allowed S clock h′
   hears-allowed {x} (own-newer {R = R} {L = l} {C = C} {h = h} {h′ = h′} a b z) w g o =
       answers-allowed x R l C h′ (λ i. let q = o a i in OneCopy.not-newer-than-live (S .last) (q .0) R h (q .1 .0) b (q .2)) z w
   hears-allowed (newer-lsp a b) w g o = stored-allowed b w
@@ -114,7 +114,7 @@ module _ (P : Topology) (clock : ℕ) (S : Slot) where
   hears-allowed (unlisted-purge a) w g o = g
 
   delivery-allowed : {b : Bool} {r c x : ℕ} {g : Kind} {w : Mention} {h h′ : Held} → Delivery P b r c g w x h h′ → Allowed-mention w → Allowed S clock h →
-    (x ≡ P .owner → P .active ≡ true → (L : ℕ) × OneCopy.Says-no-newer (S .last) L w × Live (S .last) h) → Allowed S clock h′
+      (x ≡ P .owner → P .active ≡ true → (L : ℕ) × OneCopy.Says-no-newer (S .last) L w × Live (S .last) h) → Allowed S clock h′
   delivery-allowed (sender e q) w l o = sends-allowed q l
   delivery-allowed (hears e a d q) w l o = hears-allowed q w l o
   delivery-allowed (ignores e a) w l o = l
@@ -166,12 +166,12 @@ module _ (P : Topology) (clock : ℕ) (S : Slot) where
 
   pub consistent-put : {b : Bool} {r c : ℕ} {g : Kind} {s s′ : Holdings} → Put P b r c g s s′ → Consistent P clock S s → Consistent P clock S s′
   consistent-put {b} {r} {c} {g} {s} {s′} p Z = record {
-      allowed = λ x. delivery-allowed (p .delivery x) (sends-allowed-mention (sender-sends (p .delivery r)) (Z .allowed r)) (Z .allowed x) (λ e a. owner-hears-no-newer p Z x e a);
-      owner-holds = λ a. put-in-step P (S .last) p (consistent-in-step Z a) .owner-holds;
-      not-newer = λ a x. let G = put-in-step P (S .last) p (consistent-in-step Z a) in conforms-not-newer (G .left) (s′ x) (G .conforming x);
-      numbered = Z .numbered;
-      not-live = λ a. delivery-not-live (p .delivery (P .owner)) a refl (Z .not-live a)
-    }
+    allowed = λ x. delivery-allowed (p .delivery x) (sends-allowed-mention (sender-sends (p .delivery r)) (Z .allowed r)) (Z .allowed x) (λ e a. owner-hears-no-newer p Z x e a);
+    owner-holds = λ a. put-in-step P (S .last) p (consistent-in-step Z a) .owner-holds;
+    not-newer = λ a x. let G = put-in-step P (S .last) p (consistent-in-step Z a) in conforms-not-newer (G .left) (s′ x) (G .conforming x);
+    numbered = Z .numbered;
+    not-live = λ a. delivery-not-live (p .delivery (P .owner)) a refl (Z .not-live a);
+  }
 
 -- ageing
 module _ (P : Topology) (clock : ℕ) (S : Slot) where
@@ -193,18 +193,18 @@ module _ (P : Topology) (clock : ℕ) (S : Slot) where
   ages-not-live (deleted a b) l = tt
 
   pub consistent-age : (P′ : Topology) {s s′ : Holdings} → P′ .owner ≡ P .owner → ((x : ℕ) → Ages P′ x (s x) (s′ x)) → (P′ .active ≡ true → (P .active ≡ true) × Live (S .last) (s′ (P .owner))) →
-    (P′ .active ≡ false → (P .active ≡ false) ⊎ Not-live (s′ (P .owner))) → Consistent P clock S s → Consistent P′ (suc clock) S s′
+      (P′ .active ≡ false → (P .active ≡ false) ⊎ Not-live (s′ (P .owner))) → Consistent P clock S s → Consistent P′ (suc clock) S s′
   consistent-age P′ {s} {s′} o h stays-active turns-inactive Z = record {
-      allowed = λ x. ages-allowed (h x) (Z .allowed x);
-      owner-holds = λ a. subst (λ (y : ℕ). Live (S .last) (s′ y)) (sym o) (stays-active a .1);
-      not-newer = λ a x.
+    allowed = λ x. ages-allowed (h x) (Z .allowed x);
+    owner-holds = λ a. subst (λ (y : ℕ). Live (S .last) (s′ y)) (sym o) (stays-active a .1);
+    not-newer = λ a x.
         let G₀ = consistent-in-step P clock S Z (stays-active a .0) in
         let G₁ : In-step P′ (S .last) s = record { left = G₀ .left; positive = G₀ .positive; conforming = G₀ .conforming; owner-holds = subst (λ (y : ℕ). Live (S .last) (s y)) (sym o) (G₀ .owner-holds) } in
         let G = age-in-step P′ (S .last) h (subst (λ (y : ℕ). Live (S .last) (s′ y)) (sym o) (stays-active a .1)) G₁ .in-step in
         conforms-not-newer P clock S (G .left) (s′ x) (G .conforming x);
-      numbered = λ a. Z .numbered (stays-active a .0);
-      not-live = λ a. subst (λ (y : ℕ). Not-live (s′ y)) (sym o) (elim (turns-inactive a) [ inl z ↦ ages-not-live (h (P .owner)) (Z .not-live z) | inr z ↦ z ])
-    }
+    numbered = λ a. Z .numbered (stays-active a .0);
+    not-live = λ a. subst (λ (y : ℕ). Not-live (s′ y)) (sym o) (elim (turns-inactive a) [ inl z ↦ ages-not-live (h (P .owner)) (Z .not-live z) | inr z ↦ z ]);
+  }
 
 -- the slot's own acts: an issue, by originate or in a tick, and a withdrawal
 module _ {P P′ : Topology} {clock : ℕ} {S S′ : Slot} {s s′ : Holdings} (I : Issue P P′ clock S S′ s s′) (Z : Consistent P clock S s) where
@@ -233,28 +233,28 @@ module _ {P P′ : Topology} {clock : ℕ} {S S′ : Slot} {s s′ : Holdings} (
 
   pub consistent-issue : Consistent P′ clock S′ s′
   consistent-issue = record {
-      allowed = λ x. elim (ℕ-discrete x (P .owner)) [
-          yes i ↦ rw (i, I .stands) new-allowed
-        | no i ↦ rw (I .others x i) (allowed-before (s x) (Z .allowed x))
-        ];
-      owner-holds = λ a. rw (I .owner, I .stands) new-rank;
-      not-newer = λ a x. elim (ℕ-discrete x (P .owner)) [
-          yes i ↦ let r = new-rank in rw (i, I .stands) (omega arith)
-        | no i ↦ rw (I .others x i) (not-newer-before (s x) (Z .allowed x))
-        ];
-      numbered = λ a. let e = I .last in omega arith;
-      not-live = λ a. clash (I .active) a
-    }
+    allowed = λ x. elim (ℕ-discrete x (P .owner)) [
+      | yes i ↦ rw (i, I .stands) new-allowed
+      | no i ↦ rw (I .others x i) (allowed-before (s x) (Z .allowed x))
+    ];
+    owner-holds = λ a. rw (I .owner, I .stands) new-rank;
+    not-newer = λ a x. elim (ℕ-discrete x (P .owner)) [
+      | yes i ↦ let r = new-rank in rw (i, I .stands) (omega arith)
+      | no i ↦ rw (I .others x i) (not-newer-before (s x) (Z .allowed x))
+    ];
+    numbered = λ a. let e = I .last in omega arith;
+    not-live = λ a. clash (I .active) a;
+  }
 
 module _ {P P′ : Topology} {clock : ℕ} {S : Slot} {s s′ : Holdings} (W : Withdrawal P P′ S s s′) (Z : Consistent P clock S s) where
   pub consistent-withdrawal : Consistent P′ clock S s′
   consistent-withdrawal = record {
-      allowed = λ x. elim (ℕ-discrete x (P .owner)) [
-          yes i ↦ rw (i, W .stands) (inr (W .lifetime, inr (S .last, W .rank, omega arith)))
-        | no i ↦ rw (W .others x i) (Z .allowed x)
-        ];
-      owner-holds = λ a. clash a (W .inactive);
-      not-newer = λ a. clash a (W .inactive);
-      numbered = λ a. clash a (W .inactive);
-      not-live = λ a. rw (W .owner, W .stands) (W .lifetime)
-    }
+    allowed = λ x. elim (ℕ-discrete x (P .owner)) [
+      | yes i ↦ rw (i, W .stands) (inr (W .lifetime, inr (S .last, W .rank, omega arith)))
+      | no i ↦ rw (W .others x i) (Z .allowed x)
+    ];
+    owner-holds = λ a. clash a (W .inactive);
+    not-newer = λ a. clash a (W .inactive);
+    numbered = λ a. clash a (W .inactive);
+    not-live = λ a. rw (W .owner, W .stands) (W .lifetime);
+  }

@@ -106,15 +106,15 @@ slot-not-older P clock S (held j) k a r = omega (arith, number-bound P clock S (
 module _ {P P′ : Topology} {clock : ℕ} {S : Slot} {s s′ : Holdings} (Z : Consistent P clock S s) where
   issue-not-older : {S′ : Slot} → Issue P P′ clock S S′ s s′ → None-older s s′
   issue-not-older i x = elim (ℕ-discrete x (P .owner)) [
-      yes e ↦ let r = i .rank in rw (e, i .stands) (slot-not-older P clock S (s (P .owner)) (i .new) (Z .allowed (P .owner)) (omega arith))
+    | yes e ↦ let r = i .rank in rw (e, i .stands) (slot-not-older P clock S (s (P .owner)) (i .new) (Z .allowed (P .owner)) (omega arith))
     | no e ↦ rw (i .others x e) (not-older-refl (s x))
-    ]
+  ]
 
   withdrawal-not-older : Withdrawal P P′ S s s′ → None-older s s′
   withdrawal-not-older i x = elim (ℕ-discrete x (P .owner)) [
-      yes e ↦ let r = i .rank in rw (e, i .stands) (slot-not-older P clock S (s (P .owner)) (i .new) (Z .allowed (P .owner)) (omega arith))
+    | yes e ↦ let r = i .rank in rw (e, i .stands) (slot-not-older P clock S (s (P .owner)) (i .new) (Z .allowed (P .owner)) (omega arith))
     | no e ↦ rw (i .others x e) (not-older-refl (s x))
-    ]
+  ]
 
 left-alone-not-older : {Q : Topology} {x : ℕ} {h h′ : Held} → Left-alone Q x h h′ → Not-older h h′
 left-alone-not-older none-kept = tt
@@ -127,13 +127,13 @@ call-not-older Z (withdraw e f i) = withdrawal-not-older Z i
 
 tick-keeps : {v w : View} {b : Bool} → Consistent-view v → (k : Ticks b v w) → Tick-keeps v w b k
 tick-keeps {v} {w} {b} Z (e, f) = record {
-    ageing = λ x. ages-not-older (f .ages x);
-    reissue = elim (f .reissue) [
-        inl q ↦ λ x. subst (λ (s : Holdings). Not-older (f .aged x) (s x)) (sym (q .1)) (not-older-refl (f .aged x))
-      | inr i ↦ issue-not-older (aged-consistent f Z) i
-      ];
-    puts = rw e (each-put (w .topology) (suc (v .clock)) (w .slot) (f .turns) (reissued-consistent f Z))
-  }
+  ageing = λ x. ages-not-older (f .ages x);
+  reissue = elim (f .reissue) [
+    | inl q ↦ λ x. subst (λ (s : Holdings). Not-older (f .aged x) (s x)) (sym (q .1)) (not-older-refl (f .aged x))
+    | inr i ↦ issue-not-older (aged-consistent f Z) i
+  ];
+  puts = rw e (each-put (w .topology) (suc (v .clock)) (w .slot) (f .turns) (reissued-consistent f Z));
+}
 
 pub never-older : Never-older
 never-older v w r = (λ Q c. call-not-older (runs-are-consistent v r) c, λ b k. tick-keeps (runs-are-consistent v r) k)

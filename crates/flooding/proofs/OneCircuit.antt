@@ -24,9 +24,8 @@ Pending-in-step P n c u v s = In-step P n s × Pending n c u v s
 pub holds-kept : (P : Topology) (n x : ℕ) (b : Bool) (r c : ℕ) (g : Kind) (s s′ : Holdings) → Put P b r c g s s′ → Holds P n x s → Holds P n x s′
 holds-kept P n x b r c g s s′ p (G, l) = (put-in-step P n p G, put-live P n p G x l)
 
-module _ (P : Topology) (n : ℕ) (c u v : ℕ) (onu : P .attached u c ≡ true) (onv : P .attached v c ≡ true) (one : 1 ≤ n) 
-  (ends : P .point-to-point c ≡ true → (r : ℕ) → P .attached r c ≡ true → (r ≡ u) ⊎ (r ≡ v)) where
-
+module _ (P : Topology) (n : ℕ) (c u v : ℕ) (onu : P .attached u c ≡ true) (onv : P .attached v c ≡ true) (one : 1 ≤ n)
+    (ends : P .point-to-point c ≡ true → (r : ℕ) → P .attached r c ≡ true → (r ≡ u) ⊎ (r ≡ v)) where
   pub pending-kept : (r d : ℕ) (g : Kind) (s s′ : Holdings) → Put P false r d g s s′ → Pending-in-step P n c u v s → Pending-in-step P n c u v s′
   pending-kept r d g s s′ p (G, e) = (put-in-step P n p G, put-pending P n c u v onv one ends p G e)
 
@@ -53,6 +52,7 @@ module _ (P : Topology) (n : ℕ) (c u v : ℕ) (onu : P .attached u c ≡ true)
     where
       o : Aged P n s (k .aged)
       o = tick-aged P n k G
+
       go : Pending n c u v s → Pending n c u v (k .aged)
       go (inl l) = inl (aged-live P n o v l)
       go (inr (l, m)) = inr (aged-live P n o u l, aged-srm P n o c u l m)

@@ -30,10 +30,10 @@ Is-copy unlisted = ⊥
 module _ (n L : ℕ) where
   reflagged-conforms : {c : ℕ} {k k′ : Copy} → Reflagged c k k′ → Conforms n L k → Conforms n L k′
   reflagged-conforms e f = record {
-      not-newer = rw (e .rank) (f .not-newer);
-      lifetime-in-step = λ q. e .lifetime ∙ f .lifetime-in-step (sym (e .rank) ∙ q);
-      form = rw (e .rank, e .lifetime) (f .form)
-    }
+    not-newer = rw (e .rank) (f .not-newer);
+    lifetime-in-step = λ q. e .lifetime ∙ f .lifetime-in-step (sym (e .rank) ∙ q);
+    form = rw (e .rank, e .lifetime) (f .form);
+  }
 
   pub sends-no-newer : {P : Topology} {r c : ℕ} {g : Kind} {w : Mention} {h h′ : Held} → Sends P r c g w h h′ → Conforming n L h → Says-no-newer n L w
   sends-no-newer (as-lsp a b d e i) f = (f .not-newer, f .lifetime-in-step, f .form)
@@ -74,10 +74,10 @@ module _ (n L : ℕ) where
   pub hears-conforms : {P : Topology} {x c : ℕ} {w : Mention} {h h′ : Held} → Hears P x c w h h′ → Says-no-newer n L w → Conforming n L h → (x ≡ P .owner → Live n h) → Conforming n L h′
   hears-conforms (own-newer {h = h} a b z) f g o = absurd (not-newer-than-live _ h (f .0) b (o a))
   hears-conforms (newer-lsp a b) f g o = record {
-      not-newer = rw (b .rank) (f .0);
-      lifetime-in-step = λ q. b .lifetime ∙ f .1 (sym (b .rank) ∙ q);
-      form = rw (b .rank, b .lifetime) (f .2)
-    }
+    not-newer = rw (b .rank) (f .0);
+    lifetime-in-step = λ q. b .lifetime ∙ f .1 (sym (b .rank) ∙ q);
+    form = rw (b .rank, b .lifetime) (f .2);
+  }
   hears-conforms (unknown-purge a) f g o = tt
   hears-conforms (same-lsp a b d e) f g o = reflagged-conforms b g
   hears-conforms (older-lsp a b d e) f g o = reflagged-conforms b g
@@ -242,18 +242,18 @@ module _ (n L : ℕ) where
   pub ages-conforms : {P : Topology} {x : ℕ} {h h′ : Held} → 1 ≤ L → Ages P x h h′ → Conforming n (suc L) h → Conforming n L h′
   ages-conforms p none-ages f = tt
   ages-conforms p (live-ages {k = k} {k′ = k′} a b d e i u) f = record {
-      not-newer = rw d (f .not-newer);
-      lifetime-in-step = λ q. let z = f .lifetime-in-step (sym d ∙ q) in omega arith;
-      form = go (f .form)
-    }
+    not-newer = rw d (f .not-newer);
+    lifetime-in-step = λ q. let z = f .lifetime-in-step (sym d ∙ q) in omega arith;
+    form = go (f .form);
+  }
     where
       go : (k .lifetime ≡ 0) ⊎ ((j : ℕ) × (k .rank ≡ j + j)) → (k′ .lifetime ≡ 0) ⊎ ((j : ℕ) × (k′ .rank ≡ j + j))
       go (inl z) = absurd (omega arith)
       go (inr (j, q)) = inr (j, d ∙ q)
   ages-conforms p (expires {k = k} {k′ = k′} a b d e i j) f = expired-conforms k k′ p f a b d
   ages-conforms p (wait-falls {k = k} {k′ = k′} a b d e i j) f = record {
-      not-newer = rw i (f .not-newer);
-      lifetime-in-step = λ q. let z = f .lifetime-in-step (sym i ∙ q) in absurd (omega arith);
-      form = inl b
-    }
+    not-newer = rw i (f .not-newer);
+    lifetime-in-step = λ q. let z = f .lifetime-in-step (sym i ∙ q) in absurd (omega arith);
+    form = inl b;
+  }
   ages-conforms p (deleted a b) f = tt

@@ -46,11 +46,11 @@ module _ (P : Topology) (n : ℕ) where
 
     pub put-in-step : In-step P n s′
     put-in-step = record {
-        left = G .left;
-        positive = G .positive;
-        conforming = λ x. delivery-conforms (G .left) (p .delivery x) says-no-newer (G .conforming x) (owns x);
-        owner-holds = put-live (P .owner) (G .owner-holds)
-      }
+      left = G .left;
+      positive = G .positive;
+      conforming = λ x. delivery-conforms (G .left) (p .delivery x) says-no-newer (G .conforming x) (owns x);
+      owner-holds = put-live (P .owner) (G .owner-holds);
+    }
 
     pub said-older : Live n (s r) ⊎ OneCopy.Says-older n (G .left) (p .mention)
     said-older = OneCopy.sends-older n (G .left) (sender-sends (p .delivery r)) (G .conforming r)
@@ -74,8 +74,7 @@ abbrev pub Pending : ℕ → ℕ → ℕ → ℕ → Holdings → Type 0
 Pending n c u v s = Live n (s v) ⊎ (Live n (s u) × Srm c (s u))
 
 module _ (P : Topology) (n : ℕ) (c u v : ℕ) (onv : P .attached v c ≡ true) (one : 1 ≤ n)
-  (ends : P .point-to-point c ≡ true → (r : ℕ) → P .attached r c ≡ true → (r ≡ u) ⊎ (r ≡ v)) where
-
+    (ends : P .point-to-point c ≡ true → (r : ℕ) → P .attached r c ≡ true → (r ≡ u) ⊎ (r ≡ v)) where
   Announces : ℕ → ℕ → Mention → Type 0
   Announces r d w = (c ≡ d) × OneCopy.Says-live n w × (((P .point-to-point c ≡ true) × (u ≢ r)) ⊎ OneCopy.Is-copy w)
 
@@ -111,6 +110,7 @@ module _ (P : Topology) (n : ℕ) (c u v : ℕ) (onv : P .attached v c ≡ true)
     where
       here : c ≡ d → P .attached r c ≡ true
       here e = ap (P .attached r) e ∙ p .sender-attached
+
       go : Srm c (s′ u) ⊎ Announces r d (p .mention) → Pending n c u v s′
       go (inl a) = inr (put-live P n p G u l, a)
       go (inr (a, t, inl (k, e))) = go₂ (ends k r (here a))

@@ -16,10 +16,10 @@ module _ (P : ℕ → Topology) (b : Bool) (i : ℕ) where
 
   frame-mentions : {r c : ℕ} {g : Kind} {f : Frame} {s s′ : Databases} (w : Mention) → Frame-put P b r c g f s s′ → f i ≡ mentions w → Put (P i) b r c g (of-id i s) (of-id i s′)
   frame-mentions {r} {c} {g} {f} {s} {s′} w k e = record {
-      mention = w;
-      sender-attached = k .sender-attached i;
-      delivery = λ x. subst (λ (q : Saying). Delivered (P i) b r c g q x (s x i) (s′ x i)) e (k .delivery i x)
-    }
+    mention = w;
+    sender-attached = k .sender-attached i;
+    delivery = λ x. subst (λ (q : Saying). Delivered (P i) b r c g q x (s x i) (s′ x i)) e (k .delivery i x);
+  }
 
   frames-never : {r c : ℕ} {g : Kind} {fs : List Frame} {s s′ : Databases} → Frames-put P b r c g fs s s′ → Never-mentions i fs → of-id i s′ ≡ of-id i s
   frames-never all-put n = refl
@@ -32,9 +32,9 @@ module _ (P : ℕ → Topology) (b : Bool) (i : ℕ) where
 
   all-phase-phase : {t r c : ℕ} {g : Kind} {s s′ : Databases} → All-phase P b t r c g s s′ → Phase (P i) b t r c g (of-id i s) (of-id i s′)
   all-phase-phase {t} {r} {c} {g} {s} {s′} p = elim (p .each i) [
-      inl q ↦ sent (q .0) (frames-once (p .puts) (q .1))
+    | inl q ↦ sent (q .0) (frames-once (p .puts) (q .1))
     | inr q ↦ subst (λ (z : Holdings). Phase (P i) b t r c g (of-id i s) z) (sym (frames-never (p .puts) (q .1))) (not-due (q .0))
-    ]
+  ]
 
   all-turn-turn : {t r c : ℕ} {s s′ : Databases} → All-turn P b t r c s s′ → Turn (P i) b t r c (of-id i s) (of-id i s′)
   all-turn-turn (all-turn x y z) = turn (all-phase-phase x) (all-phase-phase y) (all-phase-phase z)
@@ -45,6 +45,14 @@ module _ (P : ℕ → Topology) (b : Bool) (i : ℕ) where
 
 pub projects : Projects
 projects P P′ clock S S′ missed s s′ k i = record {
-    owner = k .owner i; aged = of-id i (k .aged); ages = k .ages i; stays-active = k .stays-active i; turns-inactive = k .turns-inactive i;
-    reissued = of-id i (k .reissued); reissue = k .reissue i; order = k .order; every = k .every i; turns = all-turns-turns P′ missed i (k .turns)
-  }
+  owner = k .owner i;
+  aged = of-id i (k .aged);
+  ages = k .ages i;
+  stays-active = k .stays-active i;
+  turns-inactive = k .turns-inactive i;
+  reissued = of-id i (k .reissued);
+  reissue = k .reissue i;
+  order = k .order;
+  every = k .every i;
+  turns = all-turns-turns P′ missed i (k .turns);
+}

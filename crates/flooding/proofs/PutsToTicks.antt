@@ -25,10 +25,9 @@ module _ (P : Topology) (b : Bool) (Q : Holdings → Type 0) (keep : (r c : ℕ)
   turns-keep (then x y) q = turns-keep y (turn-keeps x q)
 
 module _ (P : Topology) (b : Bool) (Q R : Holdings → Type 0)
-  (keepQ : (r c : ℕ) (g : Kind) (s s′ : Holdings) → Put P b r c g s s′ → Q s → Q s′)
-  (keepR : (r c : ℕ) (g : Kind) (s s′ : Holdings) → Put P b r c g s s′ → R s → R s′)
-  (t r c : ℕ) where
-
+    (keepQ : (r c : ℕ) (g : Kind) (s s′ : Holdings) → Put P b r c g s s′ → Q s → Q s′)
+    (keepR : (r c : ℕ) (g : Kind) (s s′ : Holdings) → Put P b r c g s s′ → R s → R s′)
+    (t r c : ℕ) where
   pub turn-makes : (g : Kind) {s s′ : Holdings} → ((a d : Holdings) → Phase P b t r c g a d → Q a → R d) → Turn P b t r c s s′ → Q s → R s′
   turn-makes lsp hit (turn x y z) q = phase-keeps P b R keepR z (phase-keeps P b R keepR y (hit _ _ x q))
   turn-makes psnp hit (turn x y z) q = phase-keeps P b R keepR z (hit _ _ y (phase-keeps P b Q keepQ x q))
@@ -62,8 +61,11 @@ module _ (P : Topology) (n : ℕ) where
       go (m, e, p) =
           let f : (x : ℕ) → Conforming n (suc m) (s x) = λ x. subst (λ (L : ℕ). Conforming n L (s x)) e (G .conforming x) in
           record {
-            left = m; positive = p; was = f; ages = h;
-            in-step = record { left = m; positive = p; conforming = λ x. OneCopy.ages-conforms n m p (h x) (f x); owner-holds = k }
+            left = m;
+            positive = p;
+            was = f;
+            ages = h;
+            in-step = record { left = m; positive = p; conforming = λ x. OneCopy.ages-conforms n m p (h x) (f x); owner-holds = k };
           }
 
   pub aged-live : {s a : Holdings} → Aged P n s a → (x : ℕ) → Live n (s x) → Live n (a x)

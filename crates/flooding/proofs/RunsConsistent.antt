@@ -27,14 +27,14 @@ left-alone-not-live (held-kept a b d e u) l = b ∙ l
 
 consistent-other-call : {Q P P′ : Topology} {clock : ℕ} {S : Slot} {s s′ : Holdings} → Other-call Q P P′ s s′ → Consistent P clock S s → Consistent P′ clock S s′
 consistent-other-call {Q} {P} {P′} {clock} {S} {s} {s′} o Z = record {
-    allowed = λ x. left-alone-allowed S clock (o .left-alone x) (Z .allowed x);
-    owner-holds = λ a.
+  allowed = λ x. left-alone-allowed S clock (o .left-alone x) (Z .allowed x);
+  owner-holds = λ a.
       subst (λ (y : ℕ). Live (S .last) (s′ y)) (sym (o .owner)) (left-alone-live (S .last) (o .left-alone (P .owner)) (Z .owner-holds (sym (o .active) ∙ a)));
-    not-newer = λ a x. left-alone-not-newer (S .last) (o .left-alone x) (Z .not-newer (sym (o .active) ∙ a) x);
-    numbered = λ a. Z .numbered (sym (o .active) ∙ a);
-    not-live = λ a.
-      subst (λ (y : ℕ). Not-live (s′ y)) (sym (o .owner)) (left-alone-not-live (o .left-alone (P .owner)) (Z .not-live (sym (o .active) ∙ a)))
-  }
+  not-newer = λ a x. left-alone-not-newer (S .last) (o .left-alone x) (Z .not-newer (sym (o .active) ∙ a) x);
+  numbered = λ a. Z .numbered (sym (o .active) ∙ a);
+  not-live = λ a.
+      subst (λ (y : ℕ). Not-live (s′ y)) (sym (o .owner)) (left-alone-not-live (o .left-alone (P .owner)) (Z .not-live (sym (o .active) ∙ a)));
+}
 
 -- a call
 pub consistent-call : {Q : Topology} {v w : View} → Call Q v w → Consistent-view v → Consistent-view w
@@ -49,11 +49,11 @@ module _ {P P′ : Topology} {clock : ℕ} {S S′ : Slot} {b : Bool} {s s′ : 
 
   pub reissued-consistent : Consistent P′ (suc clock) S′ (f .reissued)
   reissued-consistent = elim (f .reissue) [
-      inl e ↦
+    | inl e ↦
         subst (λ (y : Holdings). Consistent P′ (suc clock) S′ y) (sym (e .1))
         (subst (λ (y : Slot). Consistent P′ (suc clock) y (f .aged)) (sym (e .0)) aged-consistent)
     | inr i ↦ consistent-issue i aged-consistent
-    ]
+  ]
 
   pub ticked-consistent : Consistent P′ (suc clock) S′ s′
   ticked-consistent = turns-keep P′ b (Consistent P′ (suc clock) S′) (λ r c g z z′ p q. consistent-put P′ (suc clock) S′ p q) (f .turns) reissued-consistent
@@ -63,12 +63,12 @@ consistent-tick (e, f) Z = rw e (ticked-consistent f Z)
 
 pub runs-are-consistent : Runs-are-consistent
 runs-are-consistent v (opened a e f h) = record {
-    allowed = λ x. rw (h x) tt;
-    owner-holds = λ z. clash z a;
-    not-newer = λ z. clash z a;
-    numbered = λ z. clash z a;
-    not-live = λ z. rw (h (v .topology .owner)) tt
-  }
+  allowed = λ x. rw (h x) tt;
+  owner-holds = λ z. clash z a;
+  not-newer = λ z. clash z a;
+  numbered = λ z. clash z a;
+  not-live = λ z. rw (h (v .topology .owner)) tt;
+}
 runs-are-consistent w (Run.call {v = v} r c) = consistent-call c (runs-are-consistent v r)
 runs-are-consistent w (Run.tick {v = v} r k) = consistent-tick k (runs-are-consistent v r)
 

@@ -19,7 +19,7 @@ member (y ∷ l) x = cond (eqb x y) true (member l x)
 pub data Path (P : Topology) (u : ℕ) : ℕ → List ℕ → ℕ → Type 0 where
   start : Path P u u (u ∷ []) 0
   step : {w v h : ℕ} {l : List ℕ} (c : ℕ) → P .attached w c ≡ true → P .attached v c ≡ true → member l v ≡ false → Path P u w l h →
-    Path P u v (v ∷ l) (suc h)
+      Path P u v (v ∷ l) (suc h)
 
 pub record To (P : Topology) (u v : ℕ) : Type 0 where
   pub visited : List ℕ
@@ -30,23 +30,23 @@ pub record To (P : Topology) (u v : ℕ) : Type 0 where
 cut : {P : Topology} {u w h : ℕ} {l : List ℕ} (v : ℕ) → Path P u w l h → member l v ≡ true → To P u v
 unfolding member
 cut {P} {u} v start m = elim (outcome (eqb v u)) [
-    is-true e ↦ let q : u ≡ v = sym (eqb-is v u e) in subst (λ (y : ℕ). To P u y) q (record { visited = u ∷ []; hops = 0; path = start })
+  | is-true e ↦ let q : u ≡ v = sym (eqb-is v u e) in subst (λ (y : ℕ). To P u y) q (record { visited = u ∷ []; hops = 0; path = start })
   | is-false e ↦ let z : false ≡ true = rw e at m in clash z refl
-  ]
+]
 cut {P} {u} v (step {v = y} {h = h} {l = l} c a b n p) m = elim (outcome (eqb v y)) [
-    is-true e ↦
+  | is-true e ↦
       let q : y ≡ v = sym (eqb-is v y e) in
       subst (λ (z : ℕ). To P u z) q (record { visited = y ∷ l; hops = suc h; path = step c a b n p })
   | is-false e ↦ cut v p (rw e at m)
-  ]
+]
 
 to : {P : Topology} {u v : ℕ} → Way P u v → To P u v
 to {P} {u} self = record { visited = u ∷ []; hops = 0; path = start }
 to {P} {u} (through {v = v} c a b y) =
     let q = to y in
     elim (outcome (member (q .visited) v)) [
-      is-true e ↦ cut v (q .path) e
-    | is-false e ↦ record { visited = v ∷ q .visited; hops = suc (q .hops); path = step c a b e (q .path) }
+      | is-true e ↦ cut v (q .path) e
+      | is-false e ↦ record { visited = v ∷ q .visited; hops = suc (q .hops); path = step c a b e (q .path) }
     ]
 
 -- it visits one router more than it has circuits

@@ -45,18 +45,18 @@ module _ (P : Topology) (n T M : ℕ) (X : Held-stretch P n T M) (G : In-step P 
     csnp-tick-is = (omega arith, omega arith, omega arith)
 
     pub point-to-point-hop : (c u v : ℕ) → P .point-to-point c ≡ true → P .attached u c ≡ true → P .attached v c ≡ true → u ≢ v →
-      ((r : ℕ) → P .attached r c ≡ true → (r ≡ u) ⊎ (r ≡ v)) → Live n (X .holdings a u) → Live n (X .holdings (a + W) v)
+        ((r : ℕ) → P .attached r c ≡ true → (r ≡ u) ⊎ (r ≡ v)) → Live n (X .holdings a u) → Live n (X .holdings (a + W) v)
     point-to-point-hop c u v cab onu onv ne two l =
         let t = csnp-tick-is in
         let e : P .point-to-point c ≡ true → (r : ℕ) → P .attached r c ≡ true → (r ≡ u) ⊎ (r ≡ v) = λ _. two in
         let q₀ : Holds P n u (X .holdings csnp-tick) = (in-step-at csnp-tick (omega arith), live-on u a csnp-tick (omega arith) (omega arith) l) in
         let q₁ : Pending-in-step P n c u v (X .holdings (suc csnp-tick)) =
-              csnp-step-pending P n c u v onu onv one e (tick-at csnp-tick (omega arith) (omega arith)) (t .0) (λ z. clash cab z) ne q₀ in
+        csnp-step-pending P n c u v onu onv one e (tick-at csnp-tick (omega arith) (omega arith)) (t .0) (λ z. clash cab z) ne q₀ in
         let q₂ : Pending-in-step P n c u v (X .holdings (csnp-tick + 5)) =
-              up-to (λ (j : ℕ). Pending-in-step P n c u v (X .holdings j)) (suc csnp-tick) (csnp-tick + 5) (omega arith)
-              (λ j f g q. pending-step P n c u v onu onv one e (tick-at j (omega arith) (omega arith)) q) q₁ in
+        up-to (λ (j : ℕ). Pending-in-step P n c u v (X .holdings j)) (suc csnp-tick) (csnp-tick + 5) (omega arith)
+        (λ j f g q. pending-step P n c u v onu onv one e (tick-at j (omega arith) (omega arith)) q) q₁ in
         let q₃ : Holds P n v (X .holdings (suc (csnp-tick + 5))) =
-              lsp-step P n c u v onu onv one e (tick-at (csnp-tick + 5) (omega arith) (omega arith)) (λ _. omega arith) q₂ in
+        lsp-step P n c u v onu onv one e (tick-at (csnp-tick + 5) (omega arith) (omega arith)) (λ _. omega arith) q₂ in
         live-on v (suc (csnp-tick + 5)) (a + W) (omega arith) (omega arith) (q₃ .1)
 
     last-step : (c v k : ℕ) → P .point-to-point c ≡ false → P .attached v c ≡ true → a ≤ k → k < a + W → Some-pending-in-step P n c v (X .holdings k) → Live n (X .holdings (suc k) v)
@@ -65,36 +65,36 @@ module _ (P : Topology) (n T M : ℕ) (X : Held-stretch P n T M) (G : In-step P 
         lsp-step P n c x v onx onv one (λ z. clash z broadcast) (tick-at k i j) (λ z. clash z broadcast) (g, inr (l, m)) .1
 
     pub broadcast-hop : (c u v : ℕ) → P .point-to-point c ≡ false → P .attached u c ≡ true → P .attached v c ≡ true → P .attached (P .designated c) c ≡ true → u ≢ v →
-      Live n (X .holdings a u) → Live n (X .holdings (a + W) v)
+        Live n (X .holdings a u) → Live n (X .holdings (a + W) v)
     broadcast-hop c u v broadcast onu onv onc ne l =
         let t = csnp-tick-is in
         let q₀ : Holds P n u (X .holdings csnp-tick) = (in-step-at csnp-tick (omega arith), live-on u a csnp-tick (omega arith) (omega arith) l) in
         elim (ℕ-discrete v (P .designated c)) [
-        yes i ↦
-            let q₁ : Pending-in-step P n c u v (X .holdings (suc csnp-tick)) =
-                  csnp-step-pending P n c u v onu onv one (λ z. clash z broadcast) (tick-at csnp-tick (omega arith) (omega arith)) (t .0) (λ _. i) ne q₀ in
-            let q₂ : Holds P n v (X .holdings (suc (suc csnp-tick))) =
-                  lsp-step P n c u v onu onv one (λ z. clash z broadcast) (tick-at (suc csnp-tick) (omega arith) (omega arith)) (λ z. clash z broadcast) q₁ in
-            live-on v (suc (suc csnp-tick)) (a + W) (omega arith) (omega arith) (q₂ .1)
-      | no i ↦
-            let q₁ : Behind-or-pending-in-step P n c v 0 (X .holdings (suc csnp-tick)) =
-                  csnp-step-behind P n c v broadcast onv onc one (tick-at csnp-tick (omega arith) (omega arith)) u (t .0) i onu q₀ in
-            let q₂ : Behind-or-pending-in-step P n c v 1 (X .holdings (suc (suc csnp-tick))) =
-                  behind-step P n c v broadcast onv onc one (tick-at (suc csnp-tick) (omega arith) (omega arith)) 0 (omega arith) q₁ in
-            let q₃ : Some-pending-in-step P n c v (X .holdings (suc (suc (suc csnp-tick)))) =
-                  psnp-step P n c v broadcast onv onc one (tick-at (suc (suc csnp-tick)) (omega arith) (omega arith)) 1 (omega arith) (omega arith) i q₂ in
-            let q₄ = last-step c v (suc (suc (suc csnp-tick))) broadcast onv (omega arith) (omega arith) q₃ in
-            live-on v (suc (suc (suc (suc csnp-tick)))) (a + W) (omega arith) (omega arith) q₄
+          | yes i ↦
+              let q₁ : Pending-in-step P n c u v (X .holdings (suc csnp-tick)) =
+              csnp-step-pending P n c u v onu onv one (λ z. clash z broadcast) (tick-at csnp-tick (omega arith) (omega arith)) (t .0) (λ _. i) ne q₀ in
+              let q₂ : Holds P n v (X .holdings (suc (suc csnp-tick))) =
+              lsp-step P n c u v onu onv one (λ z. clash z broadcast) (tick-at (suc csnp-tick) (omega arith) (omega arith)) (λ z. clash z broadcast) q₁ in
+              live-on v (suc (suc csnp-tick)) (a + W) (omega arith) (omega arith) (q₂ .1)
+          | no i ↦
+              let q₁ : Behind-or-pending-in-step P n c v 0 (X .holdings (suc csnp-tick)) =
+              csnp-step-behind P n c v broadcast onv onc one (tick-at csnp-tick (omega arith) (omega arith)) u (t .0) i onu q₀ in
+              let q₂ : Behind-or-pending-in-step P n c v 1 (X .holdings (suc (suc csnp-tick))) =
+              behind-step P n c v broadcast onv onc one (tick-at (suc csnp-tick) (omega arith) (omega arith)) 0 (omega arith) q₁ in
+              let q₃ : Some-pending-in-step P n c v (X .holdings (suc (suc (suc csnp-tick)))) =
+              psnp-step P n c v broadcast onv onc one (tick-at (suc (suc csnp-tick)) (omega arith) (omega arith)) 1 (omega arith) (omega arith) i q₂ in
+              let q₄ = last-step c v (suc (suc (suc csnp-tick))) broadcast onv (omega arith) (omega arith) q₃ in
+              live-on v (suc (suc (suc (suc csnp-tick)))) (a + W) (omega arith) (omega arith) q₄
         ]
 
 pub windows-carry : Windows-carry
 windows-carry Q n T M W one long F X G a fits clean c u v onu onv l = elim (ℕ-discrete u v) [
-    yes e ↦ subst (λ (y : ℕ). Live n (X .holdings (a + W) y)) e (live-on Q n T M X G u a (a + W) (omega arith) fits l)
+  | yes e ↦ subst (λ (y : ℕ). Live n (X .holdings (a + W) y)) e (live-on Q n T M X G u a (a + W) (omega arith) fits l)
   | no ne ↦ elim (outcome (Q .point-to-point c)) [
-      is-true i ↦ point-to-point-hop Q n T M X G one W long a fits clean c u v i onu onv ne (F .two-ends c u v i onu onv ne) l
+    | is-true i ↦ point-to-point-hop Q n T M X G one W long a fits clean c u v i onu onv ne (F .two-ends c u v i onu onv ne) l
     | is-false i ↦ broadcast-hop Q n T M X G one W long a fits clean c u v i onu onv (F .designated c u i onu) ne l
-    ]
   ]
+]
 
 -- by hops, over windows of any length W that carry
 module _ (Q : Topology) (n T M W : ℕ) (X : Held-stretch Q n T M) (G : In-step Q n (X .holdings 0)) (carries : Carries X W) where
@@ -114,11 +114,11 @@ module _ (Q : Topology) (n T M W : ℕ) (X : Held-stretch Q n T M) (G : In-step 
       let e = ticks-more w in
       let u : count-of (X .missed) (ticks w) ≤ count-of (X .missed) (ticks (suc w)) = rw e (count-up (X .missed) (ticks w) W) in
       elim (ℕ-discrete (count-of (X .missed) (ticks (suc w))) (count-of (X .missed) (ticks w))) [
-        no d ↦ live-on Q n T M X G x (ticks w) (ticks (suc w)) (omega arith) fits (reach w (suc j) x (omega arith) (hop c a b y) (omega arith))
-      | yes d ↦
-          let f : count-of (X .missed) (ticks w + W) ≡ count-of (X .missed) (ticks w) = ap (count-of (X .missed)) (sym e) ∙ d in
-          let l : Live n (X .holdings (ticks w) z) = reach w j z (omega arith) y (omega arith) in
-          subst (λ (k : ℕ). Live n (X .holdings k x)) (sym e) (carries (ticks w) (omega arith) (count-flat (X .missed) (ticks w) W f) c z x a b l)
+        | no d ↦ live-on Q n T M X G x (ticks w) (ticks (suc w)) (omega arith) fits (reach w (suc j) x (omega arith) (hop c a b y) (omega arith))
+        | yes d ↦
+            let f : count-of (X .missed) (ticks w + W) ≡ count-of (X .missed) (ticks w) = ap (count-of (X .missed)) (sym e) ∙ d in
+            let l : Live n (X .holdings (ticks w) z) = reach w j z (omega arith) y (omega arith) in
+            subst (λ (k : ℕ). Live n (X .holdings k x)) (sym e) (carries (ticks w) (omega arith) (count-flat (X .missed) (ticks w) W f) c z x a b l)
       ]
 
   pub reached : (h B : ℕ) → W * (h + B) ≤ M → count-of (X .missed) M ≤ B → (x : ℕ) → Within Q (Q .owner) h x → Live n (X .holdings M x)
@@ -126,7 +126,7 @@ module _ (Q : Topology) (n T M W : ℕ) (X : Held-stretch Q n T M) (G : In-step 
   reached h B fits few x y =
       let e : W * (h + B) + (M - W * (h + B)) ≡ M = omega arith in
       let u : count-of (X .missed) (W * (h + B)) ≤ count-of (X .missed) M =
-            subst (λ (k : ℕ). count-of (X .missed) (W * (h + B)) ≤ count-of (X .missed) k) e (count-up (X .missed) (W * (h + B)) (M - W * (h + B))) in
+      subst (λ (k : ℕ). count-of (X .missed) (W * (h + B)) ≤ count-of (X .missed) k) e (count-up (X .missed) (W * (h + B)) (M - W * (h + B))) in
       live-on Q n T M X G x (W * (h + B)) M fits (omega arith) (reach (h + B) h x fits y (omega arith))
 
 pub reached-by-hops : Reached-by-hops

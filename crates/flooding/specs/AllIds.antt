@@ -32,7 +32,7 @@ pub record Frame-put (P : ℕ → Topology) (missed : Bool) (r c : ℕ) (g : Kin
 pub data Frames-put (P : ℕ → Topology) (missed : Bool) (r c : ℕ) (g : Kind) : List Frame → Databases → Databases → Type 0 where
   all-put : {s : Databases} → Frames-put P missed r c g [] s s
   one-put : {f : Frame} {fs : List Frame} {s m e : Databases} → Frame-put P missed r c g f s m → Frames-put P missed r c g fs m e →
-    Frames-put P missed r c g (f ∷ fs) s e
+      Frames-put P missed r c g (f ∷ fs) s e
 
 -- one phase of a turn: the frames mention each identifier that is due once, and no other
 pub record All-phase (P : ℕ → Topology) (missed : Bool) (t r c : ℕ) (g : Kind) (s s′ : Databases) : Type 0 where
@@ -43,12 +43,12 @@ pub record All-phase (P : ℕ → Topology) (missed : Bool) (t r c : ℕ) (g : K
 -- router r's turn on circuit c
 pub data All-turn (P : ℕ → Topology) (missed : Bool) (t r c : ℕ) : Databases → Databases → Type 0 where
   all-turn : {p q m e : Databases} → All-phase P missed t r c lsp p q → All-phase P missed t r c psnp q m → All-phase P missed t r c csnp m e →
-    All-turn P missed t r c p e
+      All-turn P missed t r c p e
 
 pub data All-turns (P : ℕ → Topology) (missed : Bool) (t : ℕ) : List (ℕ × ℕ) → Databases → Databases → Type 0 where
   all-done : {s : Databases} → All-turns P missed t [] s s
   all-then : {r c : ℕ} {l : List (ℕ × ℕ)} {p q e : Databases} → All-turn P missed t r c p q → All-turns P missed t l q e →
-    All-turns P missed t ((r, c) ∷ l) p e
+      All-turns P missed t ((r, c) ∷ l) p e
 
 -- a whole tick of the network: P i and S i are the topology and the slot of identifier i
 pub record Network-tick (P P′ : ℕ → Topology) (clock : ℕ) (S S′ : ℕ → Slot) (missed : Bool) (s s′ : Databases) : Type 0 where
@@ -59,7 +59,7 @@ pub record Network-tick (P P′ : ℕ → Topology) (clock : ℕ) (S S′ : ℕ 
   pub turns-inactive : (i : ℕ) → P′ i .active ≡ false → (P i .active ≡ false) ⊎ Not-live (aged (P i .owner) i)
   pub reissued : Databases
   pub reissue : (i : ℕ) →
-    ((S′ i ≡ S i) × (of-id i reissued ≡ of-id i aged)) ⊎ Issue (P′ i) (P′ i) (suc clock) (S i) (S′ i) (of-id i aged) (of-id i reissued)
+      ((S′ i ≡ S i) × (of-id i reissued ≡ of-id i aged)) ⊎ Issue (P′ i) (P′ i) (suc clock) (S i) (S′ i) (of-id i aged) (of-id i reissued)
   pub order : List (ℕ × ℕ)
   pub every : (i r c : ℕ) → P′ i .attached r c ≡ true → Among r c order
   pub turns : All-turns P′ missed (suc clock) order reissued s′

@@ -61,16 +61,16 @@ None-older s s′ = (x : ℕ) → Not-older (s x) (s′ x)
 
 -- R holds from before to after each put of the turns
 abbrev pub Each-phase : {P : Topology} {missed : Bool} {t r c : ℕ} {g : Kind} {s s′ : Holdings} → (Holdings → Holdings → Type 0) →
-  Phase P missed t r c g s s′ → Type 0
+    Phase P missed t r c g s s′ → Type 0
 Each-phase R (not-due d) = Unit {0}
 Each-phase R (sent {s = s} {s′ = s′} d p) = R s s′
 
 abbrev pub Each-turn : {P : Topology} {missed : Bool} {t r c : ℕ} {s s′ : Holdings} → (Holdings → Holdings → Type 0) →
-  Turn P missed t r c s s′ → Type 0
+    Turn P missed t r c s s′ → Type 0
 Each-turn R (turn a b d) = Each-phase R a × Each-phase R b × Each-phase R d
 
 abbrev pub Each-put : {P : Topology} {missed : Bool} {t : ℕ} {l : List (ℕ × ℕ)} {s s′ : Holdings} → (Holdings → Holdings → Type 0) →
-  Turns P missed t l s s′ → Type 0
+    Turns P missed t l s s′ → Type 0
 Each-put R done = Unit {0}
 Each-put R (then x y) = Each-turn R x × Each-put R y
 

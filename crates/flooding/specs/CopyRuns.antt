@@ -71,7 +71,7 @@ pub data Call (Q : Topology) (v w : View) : Type 0 where
   other : w .clock ≡ v .clock → w .slot ≡ v .slot → Other-call Q (v .topology) (w .topology) (v .holdings) (w .holdings) → Call Q v w
   issue : w .clock ≡ v .clock → Issue (v .topology) (w .topology) (v .clock) (v .slot) (w .slot) (v .holdings) (w .holdings) → Call Q v w
   withdraw : w .clock ≡ v .clock → w .slot ≡ v .slot → Withdrawal (v .topology) (w .topology) (v .slot) (v .holdings) (w .holdings) →
-    Call Q v w
+      Call Q v w
 
 -- an accepted tick, and whether it missed a frame
 abbrev pub Ticks : Bool → View → View → Type 0
@@ -89,6 +89,6 @@ pub data Run : View → Type 0 where
 pub data Stretch (Q : Topology) (v : View) : View → ℕ → ℕ → Type 0 where
   begin : Keeps-circuits Q (v .topology) → Stretch Q v v 0 0
   call : {w z : View} {ticks missing : ℕ} → Stretch Q v w ticks missing → Call Q w z → Keeps-circuits Q (z .topology) →
-    Stretch Q v z ticks missing
+      Stretch Q v z ticks missing
   tick : {w z : View} {ticks missing : ℕ} {missed : Bool} → Stretch Q v w ticks missing → Ticks missed w z → Keeps-circuits Q (z .topology) →
-    Stretch Q v z (suc ticks) (missing + bit missed)
+      Stretch Q v z (suc ticks) (missing + bit missed)

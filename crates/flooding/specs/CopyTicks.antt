@@ -31,13 +31,13 @@ pub data Phase (P : Topology) (missed : Bool) (t r c : ℕ) (g : Kind) : Holding
 -- router r's turn on circuit c
 pub data Turn (P : Topology) (missed : Bool) (t r c : ℕ) : Holdings → Holdings → Type 0 where
   turn : {a b d e : Holdings} → Phase P missed t r c lsp a b → Phase P missed t r c psnp b d → Phase P missed t r c csnp d e →
-    Turn P missed t r c a e
+      Turn P missed t r c a e
 
 -- the turns of routers on circuits, in this order
 pub data Turns (P : Topology) (missed : Bool) (t : ℕ) : List (ℕ × ℕ) → Holdings → Holdings → Type 0 where
   done : {s : Holdings} → Turns P missed t [] s s
   then : {r c : ℕ} {l : List (ℕ × ℕ)} {a b d : Holdings} → Turn P missed t r c a b → Turns P missed t l b d →
-    Turns P missed t ((r, c) ∷ l) a d
+      Turns P missed t ((r, c) ∷ l) a d
 
 -- the turn of router r on circuit c is in the list
 pub data Among (r c : ℕ) : List (ℕ × ℕ) → Type 0 where
@@ -49,11 +49,11 @@ pub data Among (r c : ℕ) : List (ℕ × ℕ) → Type 0 where
 pub data Ages (P : Topology) (x : ℕ) : Held → Held → Type 0 where
   none-ages : Ages P x none none
   live-ages : {k k′ : Copy} → k .lifetime ≡ suc (k′ .lifetime) → 1 ≤ k′ .lifetime → k′ .rank ≡ k .rank → k′ .wait ≡ k .wait →
-    ((e : ℕ) → (k′ .srm e ≡ k .srm e) × (k′ .ssn e ≡ k .ssn e)) → k′ .content ≡ k .content → Ages P x (held k) (held k′)
+      ((e : ℕ) → (k′ .srm e ≡ k .srm e) × (k′ .ssn e ≡ k .ssn e)) → k′ .content ≡ k .content → Ages P x (held k) (held k′)
   expires : {k k′ : Copy} → k .lifetime ≡ 1 → k′ .lifetime ≡ 0 → k′ .rank ≡ suc (k .rank) → k′ .wait ≡ 60 →
-    ((e : ℕ) → P .attached x e ≡ true → k′ .srm e ≡ true) → ((e : ℕ) → k′ .ssn e ≡ k .ssn e) → Ages P x (held k) (held k′)
+      ((e : ℕ) → P .attached x e ≡ true → k′ .srm e ≡ true) → ((e : ℕ) → k′ .ssn e ≡ k .ssn e) → Ages P x (held k) (held k′)
   wait-falls : {k k′ : Copy} → k .lifetime ≡ 0 → k′ .lifetime ≡ 0 → k .wait ≡ suc (k′ .wait) → 1 ≤ k′ .wait → k′ .rank ≡ k .rank →
-    ((e : ℕ) → (k′ .srm e ≡ k .srm e) × (k′ .ssn e ≡ k .ssn e)) → Ages P x (held k) (held k′)
+      ((e : ℕ) → (k′ .srm e ≡ k .srm e) × (k′ .ssn e ≡ k .ssn e)) → Ages P x (held k) (held k′)
   deleted : {k : Copy} → k .lifetime ≡ 0 → k .wait ≡ 1 → Ages P x (held k) none
 
 -- the tick that takes the clock to t, in which the owner keeps its live record of number n and issues nothing

@@ -27,8 +27,8 @@ pub data Mentions-once (i : ℕ) : List Frame → Type 0 where
 pub data In-ranges (D : ℕ → Type 0) : ℕ → List Frame → Type 0 where
   no-more : {lo : ℕ} → ((j : ℕ) → lo ≤ j → D j → ⊥) → In-ranges D lo []
   range : {lo : ℕ} {f : Frame} {fs : List Frame} (next : ℕ) → lo ≤ next →
-    ((j : ℕ) → lo ≤ j → j < next → D j → (w : Mention) × (f j ≡ mentions w)) →
-    ((j : ℕ) → (j < lo) ⊎ ((next ≤ j) ⊎ (D j → ⊥)) → f j ≡ silent) → In-ranges D next fs → In-ranges D lo (f ∷ fs)
+      ((j : ℕ) → lo ≤ j → j < next → D j → (w : Mention) × (f j ≡ mentions w)) →
+      ((j : ℕ) → (j < lo) ⊎ ((next ≤ j) ⊎ (D j → ⊥)) → f j ≡ silent) → In-ranges D next fs → In-ranges D lo (f ∷ fs)
 
 -- so each identifier below `top` is mentioned once
 abbrev pub Ranges-mention-once : Type 0

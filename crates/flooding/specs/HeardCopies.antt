@@ -20,10 +20,13 @@ no-content = record { check = []; body = [] }
 -- stored from c: to be sent on the other circuits in service
 abbrev pub stored : Topology → ℕ → ℕ → ℕ → ℕ → Content → (ℕ → Bool) → (ℕ → Bool) → Copy
 stored P x c R L C srm ssn = record {
-    rank = R; lifetime = L; content = cond (leb 1 L) C no-content; wait = cond (leb 1 L) 0 60;
-    srm = λ e. cond (eqb e c) false (cond (P .attached x e) true (srm e));
-    ssn = λ e. cond (eqb e c) (cond (P .point-to-point c) true (ssn e)) (cond (P .attached x e) false (ssn e))
-  }
+  rank = R;
+  lifetime = L;
+  content = cond (leb 1 L) C no-content;
+  wait = cond (leb 1 L) 0 60;
+  srm = λ e. cond (eqb e c) false (cond (P .attached x e) true (srm e));
+  ssn = λ e. cond (eqb e c) (cond (P .point-to-point c) true (ssn e)) (cond (P .attached x e) false (ssn e));
+}
 
 abbrev pub marked : Copy → ℕ → ℕ → Bool → Bool → Copy
 marked k w c a b = record { rank = k .rank; lifetime = k .lifetime; content = k .content; wait = w; srm = set c a (k .srm); ssn = set c b (k .ssn) }

@@ -10,7 +10,7 @@ use Rattle.flooding.specs.Stretches.{Held-stretch, In-step, count-of}
 -- a point-to-point circuit joins two routers, and a broadcast circuit's designated router is attached to it
 pub record Well-formed (P : Topology) : Type 0 where
   pub two-ends : (c u v : ℕ) → P .point-to-point c ≡ true → P .attached u c ≡ true → P .attached v c ≡ true → u ≢ v →
-    (r : ℕ) → P .attached r c ≡ true → (r ≡ u) ⊎ (r ≡ v)
+      (r : ℕ) → P .attached r c ≡ true → (r ≡ u) ⊎ (r ≡ v)
   pub designated : (c u : ℕ) → P .point-to-point c ≡ false → P .attached u c ≡ true → P .attached (P .designated c) c ≡ true
 
 -- v is at most h circuits from u

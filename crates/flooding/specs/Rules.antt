@@ -47,23 +47,23 @@ pub data Hears (P : Topology) (x c : ℕ) : Mention → Held → Held → Type 0
   newer-lsp : {R L : ℕ} {C : Content} {h : Held} {k′ : Copy} → Newer R h → Stored P x c R L C k′ → Hears P x c (copy R L C) h (held k′)
   unknown-purge : {R L : ℕ} {C : Content} → (Newer R none → ⊥) → Hears P x c (copy R L C) none none
   same-lsp : {R L : ℕ} {C : Content} {k k′ : Copy} → R ≡ k .rank → Reflagged c k k′ → k′ .wait ≡ k .wait → k′ .srm c ≡ false →
-    Hears P x c (copy R L C) (held k) (held k′)
+      Hears P x c (copy R L C) (held k) (held k′)
   older-lsp : {R L : ℕ} {C : Content} {k k′ : Copy} → R < k .rank → Reflagged c k k′ → k′ .wait ≡ k .wait → k′ .srm c ≡ true →
-    Hears P x c (copy R L C) (held k) (held k′)
+      Hears P x c (copy R L C) (held k) (held k′)
   -- an entry: of what is not held, live (a placeholder is stored, with SSN) or not; the same; older; newer (a wait above 0 begins again)
   unknown-entry : {R : ℕ} {k′ : Copy} → Newer R none → k′ .rank ≡ 0 → k′ .lifetime ≡ 0 → k′ .wait ≡ 60 → k′ .ssn c ≡ true →
-    Hears P x c (entry R) none (held k′)
+      Hears P x c (entry R) none (held k′)
   unknown-not-live : {R : ℕ} → (Newer R none → ⊥) → Hears P x c (entry R) none none
   same-entry : {R : ℕ} {k k′ : Copy} → R ≡ k .rank → Reflagged c k k′ → k′ .wait ≡ k .wait → k′ .ssn c ≡ k .ssn c →
-    (P .point-to-point c ≡ false → k′ .srm c ≡ k .srm c) → Hears P x c (entry R) (held k) (held k′)
+      (P .point-to-point c ≡ false → k′ .srm c ≡ k .srm c) → Hears P x c (entry R) (held k) (held k′)
   older-entry : {R : ℕ} {k k′ : Copy} → R < k .rank → Reflagged c k k′ → k′ .wait ≡ k .wait → k′ .srm c ≡ true →
-    Hears P x c (entry R) (held k) (held k′)
+      Hears P x c (entry R) (held k) (held k′)
   newer-entry : {R : ℕ} {k k′ : Copy} → k .rank < R → Reflagged c k k′ → (k′ .wait ≡ 0) ⊎ (k′ .wait ≡ 60) → k′ .ssn c ≡ true →
-    (P .point-to-point c ≡ false → k′ .srm c ≡ k .srm c) → Hears P x c (entry R) (held k) (held k′)
+      (P .point-to-point c ≡ false → k′ .srm c ≡ k .srm c) → Hears P x c (entry R) (held k) (held k′)
   -- not listed by a CSNP in whose range it is: what is held live gets SRM
   unlisted-none : Hears P x c unlisted none none
   unlisted-live : {k k′ : Copy} → 1 ≤ k .lifetime → Reflagged c k k′ → k′ .wait ≡ k .wait → k′ .ssn c ≡ k .ssn c → k′ .srm c ≡ true →
-    Hears P x c unlisted (held k) (held k′)
+      Hears P x c unlisted (held k) (held k′)
   unlisted-purge : {k : Copy} → k .lifetime ≡ 0 → Hears P x c unlisted (held k) (held k)
 
 pub data Kind : Type 0 where
@@ -74,13 +74,13 @@ pub data Kind : Type 0 where
 -- held but for placeholders.
 pub data Sends (P : Topology) (r c : ℕ) : Kind → Mention → Held → Held → Type 0 where
   as-lsp : {k k′ : Copy} → k .srm c ≡ true → Reflagged c k k′ → k′ .wait ≡ k .wait → k′ .ssn c ≡ k .ssn c →
-    (P .point-to-point c ≡ true → k′ .srm c ≡ true) → Sends P r c lsp (copy (k .rank) (k .lifetime) (k .content)) (held k) (held k′)
+      (P .point-to-point c ≡ true → k′ .srm c ≡ true) → Sends P r c lsp (copy (k .rank) (k .lifetime) (k .content)) (held k) (held k′)
   in-psnp : {k k′ : Copy} → k .ssn c ≡ true → (P .point-to-point c ≡ false → r ≢ P .designated c) → Reflagged c k k′ →
-    k′ .wait ≡ k .wait → k′ .srm c ≡ k .srm c → Sends P r c psnp (entry (k .rank)) (held k) (held k′)
+      k′ .wait ≡ k .wait → k′ .srm c ≡ k .srm c → Sends P r c psnp (entry (k .rank)) (held k) (held k′)
   in-csnp : {k : Copy} → 1 ≤ k .rank → (P .point-to-point c ≡ false → r ≡ P .designated c) →
-    Sends P r c csnp (entry (k .rank)) (held k) (held k)
+      Sends P r c csnp (entry (k .rank)) (held k) (held k)
   omits-placeholder : {k : Copy} → k .rank ≡ 0 → (P .point-to-point c ≡ false → r ≡ P .designated c) →
-    Sends P r c csnp unlisted (held k) (held k)
+      Sends P r c csnp unlisted (held k) (held k)
   holds-none : (P .point-to-point c ≡ false → r ≡ P .designated c) → Sends P r c csnp unlisted none none
 
 -- on broadcast only the designated router heeds a PSNP

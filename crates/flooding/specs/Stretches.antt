@@ -17,8 +17,8 @@ pub record Keeps-circuits (Q P : Topology) : Type 0 where
 pub data Left-alone (Q : Topology) (x : ℕ) : Held → Held → Type 0 where
   none-kept : Left-alone Q x none none
   held-kept : {k k′ : Copy} → k′ .rank ≡ k .rank → k′ .lifetime ≡ k .lifetime → k′ .wait ≡ k .wait →
-    ((e : ℕ) → Q .attached x e ≡ true → (k′ .srm e ≡ k .srm e) × (k′ .ssn e ≡ k .ssn e)) → k′ .content ≡ k .content →
-    Left-alone Q x (held k) (held k′)
+      ((e : ℕ) → Q .attached x e ≡ true → (k′ .srm e ≡ k .srm e) × (k′ .ssn e ≡ k .ssn e)) → k′ .content ≡ k .content →
+      Left-alone Q x (held k) (held k′)
 
 -- some such calls, and then the tick that takes the clock to t
 pub record Step (Q : Topology) (n : ℕ) (missed : Bool) (t : ℕ) (s s′ : Holdings) : Type 0 where

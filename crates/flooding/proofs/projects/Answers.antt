@@ -6,10 +6,10 @@ use Rattle.flooding.proofs.projects.Needs as need
 
 pub returns : need.returns
 returns c = record {
-    ticks = Projection.projects;
-    ranges = FrameLists.ranges-mention-once;
-    parts = FrameLists.parts-mention-once;
-    lengths = FrameLists.rising-no-longer;
-    heard = HeardCopies.heard-by-rule;
-    ranks = Ranks.ranks
-  }
+  ticks = Projection.projects;
+  ranges = FrameLists.ranges-mention-once;
+  parts = FrameLists.parts-mention-once;
+  lengths = FrameLists.rising-no-longer;
+  heard = HeardCopies.heard-by-rule;
+  ranks = Ranks.ranks;
+}
