@@ -20,7 +20,7 @@ copy-of-issue : (S : Slot) (clock n : ℕ) (k : Copy) → 1 ≤ n → Allowed S 
     (1 ≤ k .lifetime) × (k .lifetime + clock ≡ S .ends n) × (k .content ≡ S .content n)
 copy-of-issue S clock n k one (inl (m, q, i, j, z, y, u)) r = let e : m ≡ n = omega arith in (z, y ∙ ap (S .ends) e, u ∙ ap (S .content) e)
 copy-of-issue S clock n k one (inr (z, inl y)) r = absurd (omega arith)
-copy-of-issue S clock n k one (inr (z, inr (m, y, i))) r = absurd (omega arith)
+copy-of-issue S clock n k one (inr (z, inr (m, y, j, i))) r = absurd (omega arith)
 
 -- two live copies of one number are alike
 alike : (S : Slot) (clock n : ℕ) (k : Copy) (h : Held) → 1 ≤ n → Allowed S clock (held k) → k .rank ≡ n + n → Allowed S clock h → Live n h →

@@ -171,7 +171,7 @@ active-with {P} {clock} {S} {s} n one Z l = elim (outcome (P .active)) [
     ended none a l e = l
     ended (held k) (inl (m, q, i, j, z, y, u)) l e = omega arith
     ended (held k) (inr (z, inl y)) l e = omega arith
-    ended (held k) (inr (z, inr (m, y, i))) l e = omega arith
+    ended (held k) (inr (z, inr (m, y, j, i))) l e = omega arith
 
 keeps-start : {Q : Topology} {v w : View} {m d : ℕ} → Stretch Q v w m d → Keeps-circuits Q (v .topology)
 keeps-start (begin k) = k

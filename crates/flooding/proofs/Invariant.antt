@@ -6,14 +6,14 @@ use mathlib.Core.Bool.{Bool, true, false}
 use Prim.Native.Nat.{ℕ, suc, _+_, _≤_}
 use native.Mathlib.Omega.{arith}
 use native.Mathlib.Decide.{ℕ-discrete}
-use Rattle.flooding.specs.Copies.{Topology, Copy, Held, none, held, Holdings, Mention, copy, entry, unlisted, Live, Not-live, Content}
+use Rattle.flooding.specs.Copies.{Topology, Copy, Held, none, held, Holdings, Mention, Live, Not-live, Content, Newer}
 use Rattle.flooding.specs.Rules.{Stored, Reflagged, Purged, Owner-answers, Hears, own-newer, newer-lsp, unknown-purge, same-lsp, older-lsp, unknown-not-live, unknown-entry, same-entry, older-entry, newer-entry, unlisted-none, unlisted-live, unlisted-purge, Sends, as-lsp, in-psnp, in-csnp, omits-placeholder, holds-none, Kind, Delivery, sender, hears, ignores, misses, detached, Put}
 use Rattle.flooding.specs.CopyTicks.{Ages, none-ages, live-ages, expires, wait-falls, deleted}
 use Rattle.flooding.specs.Stretches.{Conforming, In-step}
 use Rattle.flooding.proofs.OneCopy
 use Rattle.flooding.proofs.OnePut.{sender-sends, put-in-step}
 use Rattle.flooding.proofs.PutsToTicks.{age-in-step}
-use Rattle.flooding.specs.Consistency.{Consistent, Allowed, Not-newer, Allowed-copy}
+use Rattle.flooding.specs.Consistency.{Consistent, Allowed, Not-newer, Allowed-copy, Allowed-mention}
 use Rattle.flooding.specs.CopyRuns.{Slot, Issue, Withdrawal}
 use Rattle.flooding.proofs.Tests.{clash}
 
@@ -22,7 +22,7 @@ module _ (P : Topology) (clock : ℕ) (S : Slot) where
   top-life : (k : Copy) → 1 ≤ (S .last) → Allowed-copy S clock (k .rank) (k .lifetime) (k .content) → k .rank ≡ (S .last) + (S .last) → (k .lifetime + clock ≡ S .ends (S .last)) × (1 ≤ k .lifetime)
   top-life k o (inl (m, e, i, j, p, q, u)) r = let z : m ≡ (S .last) = omega arith in (q ∙ ap (S .ends) z, p)
   top-life k o (inr (l, inl e)) r = absurd (omega arith)
-  top-life k o (inr (l, inr (m, e, i))) r = absurd (omega arith)
+  top-life k o (inr (l, inr (m, e, j, i))) r = absurd (omega arith)
 
   held-life : (h : Held) → 1 ≤ (S .last) → Allowed S clock h → Live (S .last) h → (L : ℕ) × (L + clock ≡ S .ends (S .last)) × (1 ≤ L)
   held-life none o l v = absurd v
@@ -47,16 +47,10 @@ module _ (P : Topology) (clock : ℕ) (S : Slot) where
       go : (L : ℕ) × (L + clock ≡ S .ends (S .last)) × (1 ≤ L) → In-step P (S .last) s
       go (L, e, p) = record { left = L; positive = p; conforming = λ x. allowed-conforms L (s x) e (Z .numbered a) (Z .allowed x) (Z .not-newer a x); owner-holds = Z .owner-holds a }
 
-  -- an LSP carries what the slot issued, or a purge of it
-  abbrev Allowed-mention : Mention → Type 0
-  Allowed-mention (copy R l C) = Allowed-copy S clock R l C
-  Allowed-mention (entry R) = Unit {0}
-  Allowed-mention unlisted = Unit {0}
-
   reflagged-allowed : {c : ℕ} {k k′ : Copy} → Reflagged c k k′ → Allowed S clock (held k) → Allowed S clock (held k′)
   reflagged-allowed f l = rw (f .rank, f .lifetime, f .content) l
 
-  sends-allowed-mention : {r c : ℕ} {g : Kind} {w : Mention} {h h′ : Held} → Sends P r c g w h h′ → Allowed S clock h → Allowed-mention w
+  pub sends-allowed-mention : {r c : ℕ} {g : Kind} {w : Mention} {h h′ : Held} → Sends P r c g w h h′ → Allowed S clock h → Allowed-mention S clock w
   sends-allowed-mention (as-lsp a b d e i) l = l
   sends-allowed-mention (in-psnp a b d e i) l = tt
   sends-allowed-mention (in-csnp a b) l = tt
@@ -74,32 +68,35 @@ module _ (P : Topology) (clock : ℕ) (S : Slot) where
   pub number-bound : (R l : ℕ) (C : Content) → Allowed-copy S clock R l C → R ≤ suc ((S .last) + (S .last))
   number-bound R l C (inl (m, e, i, j, p, q, u)) = omega arith
   number-bound R l C (inr (z, inl e)) = omega arith
-  number-bound R l C (inr (z, inr (m, e, i))) = omega arith
+  number-bound R l C (inr (z, inr (m, e, j, i))) = omega arith
 
-  purged-allowed : (x R l : ℕ) (C : Content) (k : Copy) → Purged P x R k → Allowed-copy S clock R l C → Allowed-copy S clock (k .rank) (k .lifetime) (k .content)
-  purged-allowed x R l C k b w = inr (b .lifetime, inr (b .purge .0, b .purge .1, go w (b .rank)))
+  purged-allowed : (x R l : ℕ) (C : Content) (k : Copy) → 1 ≤ R → Purged P x R k → Allowed-copy S clock R l C → Allowed-copy S clock (k .rank) (k .lifetime) (k .content)
+  purged-allowed x R l C k o b w = let g = go w (b .rank) in inr (b .lifetime, inr (b .purge .0, b .purge .1, g .0, g .1))
     where
-      go : Allowed-copy S clock R l C → (k .rank ≡ R) ⊎ (k .rank ≡ suc R) → b .purge .0 ≤ (S .last)
-      go (inl (m, e, i, j, p, q, u)) (inl z) = let y = b .purge .1 in omega arith
-      go (inl (m, e, i, j, p, q, u)) (inr z) = let y = b .purge .1 in omega arith
-      go (inr (a, inl e)) (inl z) = let y = b .purge .1 in omega arith
-      go (inr (a, inl e)) (inr z) = let y = b .purge .1 in omega arith
-      go (inr (a, inr (m, e, i))) (inl z) = let y = b .purge .1 in omega arith
-      go (inr (a, inr (m, e, i))) (inr z) = let y = b .purge .1 in omega arith
+      go : Allowed-copy S clock R l C → (k .rank ≡ R) ⊎ (k .rank ≡ suc R) → (1 ≤ b .purge .0) × (b .purge .0 ≤ S .last)
+      go (inl (m, e, i, j, p, q, u)) (inl z) = let y = b .purge .1 in (omega arith, omega arith)
+      go (inl (m, e, i, j, p, q, u)) (inr z) = let y = b .purge .1 in (omega arith, omega arith)
+      go (inr (a, inl e)) z = absurd (omega arith)
+      go (inr (a, inr (m, e, j, i))) (inl z) = let y = b .purge .1 in (omega arith, omega arith)
+      go (inr (a, inr (m, e, j, i))) (inr z) = let y = b .purge .1 in (omega arith, omega arith)
 
-  answers-allowed : (x R l : ℕ) (C : Content) (h : Held) → (P .active ≡ true → ⊥) → Owner-answers P x R h → Allowed-copy S clock R l C → Allowed S clock h
-  answers-allowed x R l C none z a w = tt
-  answers-allowed x R l C (held k) z (inl a) w = absurd (z a)
-  answers-allowed x R l C (held k) z (inr a) w = purged-allowed x R l C k a w
+  newer-rank : (R : ℕ) (h : Held) → Newer R h → 1 ≤ R
+  newer-rank R none (n, e, o) = omega arith
+  newer-rank R (held k) n = omega arith
+
+  answers-allowed : (x R l : ℕ) (C : Content) (h : Held) → 1 ≤ R → (P .active ≡ true → ⊥) → Owner-answers P x R h → Allowed-copy S clock R l C → Allowed S clock h
+  answers-allowed x R l C none o z a w = tt
+  answers-allowed x R l C (held k) o z (inl a) w = absurd (z a)
+  answers-allowed x R l C (held k) o z (inr a) w = purged-allowed x R l C k o a w
 
   stored-allowed : {x c R l : ℕ} {C : Content} {k : Copy} → Stored P x c R l C k → Allowed-copy S clock R l C → Allowed S clock (held k)
   stored-allowed b (inl (m, e, i, j, p, q, u)) = inl (m, b .rank ∙ e, i, j, rw (b .lifetime) p, rw (b .lifetime) q, b .content p ∙ u)
   stored-allowed b (inr w) = inr (rw (b .rank, b .lifetime) w)
 
-  hears-allowed : {x c : ℕ} {w : Mention} {h h′ : Held} → Hears P x c w h h′ → Allowed-mention w → Allowed S clock h →
+  hears-allowed : {x c : ℕ} {w : Mention} {h h′ : Held} → Hears P x c w h h′ → Allowed-mention S clock w → Allowed S clock h →
       (x ≡ P .owner → P .active ≡ true → (L : ℕ) × OneCopy.Says-no-newer (S .last) L w × Live (S .last) h) → Allowed S clock h′
   hears-allowed {x} (own-newer {R = R} {L = l} {C = C} {h = h} {h′ = h′} a b z) w g o =
-      answers-allowed x R l C h′ (λ i. let q = o a i in OneCopy.not-newer-than-live (S .last) (q .0) R h (q .1 .0) b (q .2)) z w
+      answers-allowed x R l C h′ (newer-rank R h b) (λ i. let q = o a i in OneCopy.not-newer-than-live (S .last) (q .0) R h (q .1 .0) b (q .2)) z w
   hears-allowed (newer-lsp a b) w g o = stored-allowed b w
   hears-allowed (unknown-purge a) w g o = tt
   hears-allowed (same-lsp a b d e) w g o = reflagged-allowed b g
@@ -113,7 +110,7 @@ module _ (P : Topology) (clock : ℕ) (S : Slot) where
   hears-allowed (unlisted-live a b d e i) w g o = reflagged-allowed b g
   hears-allowed (unlisted-purge a) w g o = g
 
-  delivery-allowed : {b : Bool} {r c x : ℕ} {g : Kind} {w : Mention} {h h′ : Held} → Delivery P b r c g w x h h′ → Allowed-mention w → Allowed S clock h →
+  delivery-allowed : {b : Bool} {r c x : ℕ} {g : Kind} {w : Mention} {h h′ : Held} → Delivery P b r c g w x h h′ → Allowed-mention S clock w → Allowed S clock h →
       (x ≡ P .owner → P .active ≡ true → (L : ℕ) × OneCopy.Says-no-newer (S .last) L w × Live (S .last) h) → Allowed S clock h′
   delivery-allowed (sender e q) w l o = sends-allowed q l
   delivery-allowed (hears e a d q) w l o = hears-allowed q w l o
@@ -179,7 +176,7 @@ module _ (P : Topology) (clock : ℕ) (S : Slot) where
   ages-allowed none-ages l = tt
   ages-allowed (live-ages {k = k} {k′ = k′} a b d e i u) (inl (m, q, o, p, z, y, g)) = inl (m, d ∙ q, o, p, b, omega arith, u ∙ g)
   ages-allowed (live-ages {k = k} {k′ = k′} a b d e i u) (inr (z, y)) = absurd (omega arith)
-  ages-allowed (expires {k = k} {k′ = k′} a b d e i j) (inl (m, q, o, p, z, y, g)) = inr (b, inr (m, omega arith, p))
+  ages-allowed (expires {k = k} {k′ = k′} a b d e i j) (inl (m, q, o, p, z, y, g)) = inr (b, inr (m, omega arith, o, p))
   ages-allowed (expires {k = k} {k′ = k′} a b d e i j) (inr (z, y)) = absurd (omega arith)
   ages-allowed (wait-falls {k = k} {k′ = k′} a b d e i j) (inl (m, q, o, p, z, y, g)) = absurd (omega arith)
   ages-allowed (wait-falls {k = k} {k′ = k′} a b d e i j) (inr (z, y)) = inr (b, rw i y)
@@ -213,7 +210,7 @@ module _ {P P′ : Topology} {clock : ℕ} {S S′ : Slot} {s s′ : Holdings} (
   allowed-before (held k) (inl (m, q, i, j, z, y, u)) =
       let e = I .last in inl (m, q, i, omega arith, z, y ∙ sym (I .ends-before m j), u ∙ sym (I .content-before m j))
   allowed-before (held k) (inr (z, inl y)) = inr (z, inl y)
-  allowed-before (held k) (inr (z, inr (m, q, i))) = let e = I .last in inr (z, inr (m, q, omega arith))
+  allowed-before (held k) (inr (z, inr (m, q, j, i))) = let e = I .last in inr (z, inr (m, q, j, omega arith))
 
   not-newer-before : (h : Held) → Allowed S clock h → Not-newer (S′ .last) h
   not-newer-before none l = tt
@@ -250,7 +247,7 @@ module _ {P P′ : Topology} {clock : ℕ} {S : Slot} {s s′ : Holdings} (W : W
   pub consistent-withdrawal : Consistent P′ clock S s′
   consistent-withdrawal = record {
     allowed = λ x. elim (ℕ-discrete x (P .owner)) [
-      | yes i ↦ rw (i, W .stands) (inr (W .lifetime, inr (S .last, W .rank, omega arith)))
+      | yes i ↦ rw (i, W .stands) (inr (W .lifetime, inr (S .last, W .rank, Z .numbered (W .was-active), omega arith)))
       | no i ↦ rw (W .others x i) (Z .allowed x)
     ];
     owner-holds = λ a. clash a (W .inactive);

@@ -11,7 +11,8 @@ pub mod CallsBetween
 pub mod Windows
 pub mod Invariant
 pub mod RunsConsistent
-pub mod NeverOlder
+pub mod Unissued
+pub mod BookKept
 pub mod HeldThrough
 pub mod Converged
 pub mod Ranks

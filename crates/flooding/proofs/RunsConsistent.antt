@@ -4,13 +4,14 @@ use mathlib.Core.Logic.{inl, inr}
 use mathlib.Core.Bool.{Bool}
 use Prim.Native.Nat.{ℕ, suc}
 use native.Mathlib.Omega.{arith}
-use Rattle.flooding.specs.Copies.{Topology, Held, held, Holdings, Live, Not-live}
+use Rattle.flooding.specs.Copies.{Topology, Held, held, Holdings, Mention, copy, entry, unlisted, Live, Not-live}
 use Rattle.flooding.specs.Stretches.{Left-alone, none-kept, held-kept}
 use Rattle.flooding.specs.CopyRuns.{Slot, View, Full-tick, Other-call, Call, other, issue, withdraw, Ticks, Run, opened}
-use Rattle.flooding.specs.Consistency.{Allowed, Not-newer, Consistent, Consistent-view, Runs-are-consistent, Live-issue, Issued}
+use Rattle.flooding.specs.Consistency.{Allowed, Not-newer, Consistent, Consistent-view, Runs-are-consistent, Live-issue, Issued, Newer-lsp, Sent-is-allowed}
 use Rattle.flooding.proofs.PutsToTicks.{turns-keep}
 use Rattle.flooding.proofs.CallsBetween.{left-alone-live}
-use Rattle.flooding.proofs.Invariant.{consistent-put, consistent-age, consistent-issue, consistent-withdrawal}
+use Rattle.flooding.proofs.OneCopy
+use Rattle.flooding.proofs.Invariant.{sends-allowed-mention, consistent-in-step, consistent-put, consistent-age, consistent-issue, consistent-withdrawal}
 use Rattle.flooding.proofs.Tests.{clash}
 
 left-alone-allowed : {Q : Topology} {x : ℕ} (S : Slot) (clock : ℕ) {h h′ : Held} → Left-alone Q x h h′ → Allowed S clock h → Allowed S clock h′
@@ -78,3 +79,17 @@ issued v r x k e p = go (subst (λ (h : Held). Allowed (v .slot) (v .clock) h) e
     go : Allowed (v .slot) (v .clock) (held k) → Live-issue (v .slot) (v .clock) (k .rank) (k .lifetime) (k .content)
     go (inl z) = z
     go (inr z) = let y = z .0 in absurd (omega arith)
+
+-- no slot issues again because of what it hears
+not-newer-lsp : (n L : ℕ) (w : Mention) (h : Held) → OneCopy.Says-no-newer n L w → Live n h → Newer-lsp w h → ⊥
+not-newer-lsp n L (copy R l C) h f v q = OneCopy.not-newer-than-live n L R h (f .0) q v
+not-newer-lsp n L (entry R) h f v q = q
+not-newer-lsp n L unlisted h f v q = q
+
+pub sent-is-allowed : Sent-is-allowed
+sent-is-allowed P clock S s Z r c g w h q = (
+  sends-allowed-mention P clock S q (Z .allowed r),
+  λ a.
+      let G = consistent-in-step P clock S Z a in
+      not-newer-lsp (S .last) (G .left) w (s (P .owner)) (OneCopy.sends-no-newer (S .last) (G .left) q (G .conforming r)) (G .owner-holds),
+)

@@ -36,9 +36,10 @@ pub record Issue (P P′ : Topology) (clock : ℕ) (S S′ : Slot) (s s′ : Hol
   pub content : new .content ≡ S′ .content (suc (S .last))
   pub others : (x : ℕ) → x ≢ P .owner → s′ x ≡ s x
 
--- a withdrawal: the owner holds a purge of its last number, and the slot is not active
+-- a withdrawal of an active slot: the owner holds a purge of its last number, and the slot is no longer active
 pub record Withdrawal (P P′ : Topology) (S : Slot) (s s′ : Holdings) : Type 0 where
   pub owner : P′ .owner ≡ P .owner
+  pub was-active : P .active ≡ true
   pub inactive : P′ .active ≡ false
   pub new : Copy
   pub stands : s′ (P .owner) ≡ held new

@@ -1,6 +1,6 @@
 // Flooding. The theorems about it stand in the contracts of these functions, and their statements in specs/: read specs/Convergence first.
 ghost use Rattle.flooding.specs.AllIds.{Projects};
-ghost use Rattle.flooding.specs.Consistency.{Issued, Never-older, Runs-are-consistent};
+ghost use Rattle.flooding.specs.Consistency.{Issued, Keeps-the-book, Runs-are-consistent, Sent-is-allowed, Unissued-unheld};
 ghost use Rattle.flooding.specs.Convergence.{Converges, Converges-by-hops};
 ghost use Rattle.flooding.specs.Frames.{Parts-mention-once, Ranges-mention-once, Rising-no-longer};
 ghost use Rattle.flooding.specs.HeardCopies.{Heard-by-rule};
@@ -35,7 +35,9 @@ pub fn reaches() -> u8
 pub fn is_consistent() -> u8
     ensures always { λ _. ⌜ Runs-are-consistent ⌝ }
     ensures issued { λ _. ⌜ Issued ⌝ }
-    ensures older { λ _. ⌜ Never-older ⌝ }
+    ensures sent { λ _. ⌜ Sent-is-allowed ⌝ }
+    ensures unissued { λ _. ⌜ Unissued-unheld ⌝ }
+    ensures book { λ _. ⌜ Keeps-the-book ⌝ }
 {
     0
 }

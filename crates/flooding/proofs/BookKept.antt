@@ -1,5 +1,5 @@
--- No copy is replaced by an older one: not by a call, and not within a tick.
-use mathlib.Core.Path.{_≡_, refl, sym, subst}
+-- The issue book: over each call and each step of a tick no copy is replaced by an older one, and every live record was issued.
+use mathlib.Core.Path.{_∙_, _≡_, refl, sym, subst}
 use mathlib.Core.Logic.{_⊎_, inl, inr}
 use mathlib.Core.Bool.{Bool, true}
 use mathlib.Core.List.{List}
@@ -11,11 +11,11 @@ use Rattle.flooding.specs.Rules.{Reflagged, Owner-answers, Hears, own-newer, n
 use Rattle.flooding.specs.CopyTicks.{Ages, none-ages, live-ages, expires, wait-falls, deleted, Phase, not-due, sent, Turn, turn, Turns, done, then}
 use Rattle.flooding.specs.Stretches.{Left-alone, none-kept, held-kept}
 use Rattle.flooding.specs.CopyRuns.{Slot, View, Issue, Withdrawal, Call, other, issue, withdraw, Ticks}
-use Rattle.flooding.specs.Consistency.{Allowed, Consistent, Consistent-view, Not-older, None-older, Each-phase, Each-turn, Each-put, Tick-keeps, Never-older}
+use Rattle.flooding.specs.Consistency.{Allowed, Consistent, Consistent-view, Not-older, None-older, Each-phase, Each-turn, Each-put, Tick-keeps, Keeps-the-book, Booked, Booked-between}
 use Rattle.flooding.proofs.OneCopy
 use Rattle.flooding.proofs.PutsToTicks.{phase-keeps, turn-keeps}
 use Rattle.flooding.proofs.Invariant.{consistent-put, owner-hears-no-newer, number-bound}
-use Rattle.flooding.proofs.RunsConsistent.{aged-consistent, reissued-consistent, runs-are-consistent}
+use Rattle.flooding.proofs.RunsConsistent.{aged-consistent, reissued-consistent, runs-are-consistent, consistent-call}
 
 not-older-refl : (h : Held) → Not-older h h
 not-older-refl none = tt
@@ -69,17 +69,40 @@ module _ (P : Topology) (n : ℕ) where
   delivery-not-older {h = h} (misses e a) o = not-older-refl h
   delivery-not-older {h = h} (detached e a) o = not-older-refl h
 
+-- what is allowed is booked
+allowed-booked : (S : Slot) (clock : ℕ) (h : Held) → Allowed S clock h → Booked S h
+allowed-booked S clock none a = tt
+allowed-booked S clock (held k) (inl (m, q, i, j, z, y, u)) = λ l. (m, q, i, j, u)
+allowed-booked S clock (held k) (inr a) = λ l. let z = a .0 in absurd (omega arith)
+
+consistent-booked : {P : Topology} {clock : ℕ} {S : Slot} {s : Holdings} → Consistent P clock S s → (x : ℕ) → Booked S (s x)
+consistent-booked {P} {clock} {S} {s} Z x = allowed-booked S clock (s x) (Z .allowed x)
+
+booked-between : (S : Slot) (s s′ : Holdings) → ((x : ℕ) → Booked S (s x)) → ((x : ℕ) → Booked S (s′ x)) → Booked-between S s s′
+booked-between S s s′ a b m h x = elim (h x) [ inl e ↦ rw e (a x) | inr e ↦ rw e (b x) ]
+
+-- a new issue leaves the book's earlier issues
+issue-booked : {P P′ : Topology} {clock : ℕ} {S S′ : Slot} {s s′ : Holdings} → Issue P P′ clock S S′ s s′ → (h : Held) → Booked S h → Booked S′ h
+issue-booked i none b = tt
+issue-booked {S = S} {S′ = S′} i (held k) b = λ l.
+    let z = b l in
+    let e = i .last in
+    let g = z .3 in
+    (z .0, z .1, z .2, omega arith, z .4 ∙ sym (i .content-before (z .0) (z .3)))
+
 -- each put of the turns
 module _ (P : Topology) (clock : ℕ) (S : Slot) where
   abbrev Keeps : Holdings → Holdings → Type 0
-  Keeps s s′ = Consistent P clock S s′ × None-older s s′
+  Keeps s s′ = Consistent P clock S s′ × None-older s s′ × Booked-between S s s′
 
   keep : {b : Bool} (r c : ℕ) (g : Kind) (s s′ : Holdings) → Put P b r c g s s′ → Consistent P clock S s → Consistent P clock S s′
   keep r c g s s′ p Z = consistent-put P clock S p Z
 
   each-phase : {b : Bool} {t r c : ℕ} {g : Kind} {s s′ : Holdings} (p : Phase P b t r c g s s′) → Consistent P clock S s → Each-phase Keeps p
   each-phase (not-due d) Z = tt
-  each-phase (sent d p) Z = (consistent-put P clock S p Z, λ x. delivery-not-older P (S .last) (p .delivery x) (λ e a. owner-hears-no-newer P clock S p Z x e a))
+  each-phase {s = s} {s′ = s′} (sent d p) Z =
+      let Y = consistent-put P clock S p Z in
+      (Y, (λ x. delivery-not-older P (S .last) (p .delivery x) (λ e a. owner-hears-no-newer P clock S p Z x e a)), booked-between S s s′ (consistent-booked Z) (consistent-booked Y))
 
   each-turn : {b : Bool} {t r c : ℕ} {s s′ : Holdings} (p : Turn P b t r c s s′) → Consistent P clock S s → Each-turn Keeps p
   each-turn {b} (turn x y z) Z =
@@ -120,20 +143,39 @@ left-alone-not-older : {Q : Topology} {x : ℕ} {h h′ : Held} → Left-alone Q
 left-alone-not-older none-kept = tt
 left-alone-not-older (held-kept {k = k} {k′ = k′} a b d e u) = omega arith
 
-call-not-older : {Q : Topology} {v w : View} → Consistent-view v → Call Q v w → None-older (v .holdings) (w .holdings)
-call-not-older Z (other e f o) = λ x. left-alone-not-older (o .left-alone x)
-call-not-older Z (issue e i) = issue-not-older Z i
-call-not-older Z (withdraw e f i) = withdrawal-not-older Z i
+call-keeps : {Q : Topology} {v w : View} → Consistent-view v → Consistent-view w → Call Q v w →
+    None-older (v .holdings) (w .holdings) × Booked-between (w .slot) (v .holdings) (w .holdings)
+call-keeps {Q} {v} {w} Z Y c = (older c, booked-between (w .slot) (v .holdings) (w .holdings) (before c) (consistent-booked Y))
+  where
+    older : Call Q v w → None-older (v .holdings) (w .holdings)
+    older (other e f o) = λ x. left-alone-not-older (o .left-alone x)
+    older (issue e i) = issue-not-older Z i
+    older (withdraw e f i) = withdrawal-not-older Z i
+
+    before : Call Q v w → (x : ℕ) → Booked (w .slot) (v .holdings x)
+    before (other e f o) x = subst (λ (S : Slot). Booked S (v .holdings x)) (sym f) (consistent-booked Z x)
+    before (issue e i) x = issue-booked i (v .holdings x) (consistent-booked Z x)
+    before (withdraw e f i) x = subst (λ (S : Slot). Booked S (v .holdings x)) (sym f) (consistent-booked Z x)
 
 tick-keeps : {v w : View} {b : Bool} → Consistent-view v → (k : Ticks b v w) → Tick-keeps v w b k
 tick-keeps {v} {w} {b} Z (e, f) = record {
   ageing = λ x. ages-not-older (f .ages x);
+  ageing-booked = booked-between (w .slot) (v .holdings) (f .aged) (λ x. up (v .holdings x) (consistent-booked Z x)) (λ x. up (f .aged x) (consistent-booked A x));
   reissue = elim (f .reissue) [
     | inl q ↦ λ x. subst (λ (s : Holdings). Not-older (f .aged x) (s x)) (sym (q .1)) (not-older-refl (f .aged x))
-    | inr i ↦ issue-not-older (aged-consistent f Z) i
+    | inr i ↦ issue-not-older A i
   ];
+  reissue-booked = booked-between (w .slot) (f .aged) (f .reissued) (λ x. up (f .aged x) (consistent-booked A x)) (consistent-booked (reissued-consistent f Z));
   puts = rw e (each-put (w .topology) (suc (v .clock)) (w .slot) (f .turns) (reissued-consistent f Z));
 }
+  where
+    A : Consistent (w .topology) (suc (v .clock)) (v .slot) (f .aged)
+    A = aged-consistent f Z
 
-pub never-older : Never-older
-never-older v w r = (λ Q c. call-not-older (runs-are-consistent v r) c, λ b k. tick-keeps (runs-are-consistent v r) k)
+    up : (h : Held) → Booked (v .slot) h → Booked (w .slot) h
+    up h a = elim (f .reissue) [ inl q ↦ subst (λ (S : Slot). Booked S h) (sym (q .0)) a | inr i ↦ issue-booked i h a ]
+
+pub keeps-the-book : Keeps-the-book
+keeps-the-book v w r =
+    let Z = runs-are-consistent v r in
+    ((λ Q c. call-keeps Z (consistent-call c Z) c), (λ b k. tick-keeps Z k))
