@@ -1,0 +1,12 @@
+pub mod Copies
+pub mod Rules
+pub mod CopyTicks
+pub mod Stretches
+pub mod Hops
+pub mod CopyRuns
+pub mod Consistency
+pub mod Convergence
+pub mod Ranks
+pub mod HeardCopies
+pub mod Frames
+pub mod AllIds
