@@ -1,9 +1,18 @@
 // Octets as bits at the places 0 to 7.
 ghost use mathlib.Core.Path.{_≡_};
-ghost use mathlib.Core.Bool.{_&&_, _||_, not};
+ghost use mathlib.Core.Bool.{_&&_, _||_, false, not};
 ghost use Prim.Native.Nat.{ℕ, _<_};
 ghost use lib.Dec.{eqb};
-ghost use Rattle.record.specs.Bits.{bit};
+ghost use Rattle.record.specs.Bits.{Bits-stand, bit};
+
+// The octet with no bit.
+pub(crate) fn no_bits() -> u8
+    ensures none { λ r. ⌜ ((k : ℕ) → bit r k ≡ false) ⌝ }
+    ensures under { λ r. ⌜ r < 256 ⌝ }
+    ensures stand { λ _. ⌜ Bits-stand ⌝ }
+{
+    0
+}
 
 // The octet with one bit.
 pub(crate) fn bit_at(place: u8) -> u8

@@ -46,18 +46,22 @@ impl Body {
     pub fn empty() -> Body
         ensures { λ r. ⌜ body-octets r ≡ [] ⌝ }
     {
-        Body {
-            octets: [0; 100],
-            len: 0,
-        }
+        whole_body(&[])
     }
 
-    // Its octets.
+    // What holds of every body.
+    fn stands(&self)
+        ensures whole { λ _. ⌜ Whole (body-octets (now (self .entry))) ⌝ }
+        ensures short { λ _. ⌜ length (body-octets (now (self .entry))) ≤ 100 ⌝ }
+    {}
+
+    // Its octets: at most 100, and whole fields.
     pub fn as_slice(&self) -> &[u8]
         ensures is { λ r. ⌜ now r ≡ body-octets (now (self .entry)) ⌝ }
-        ensures whole { λ r. ⌜ Whole (now r) ⌝ }
-        ensures short { λ r. ⌜ length (now r) ≤ 100 ⌝ }
+        ensures whole { λ _. ⌜ Whole (body-octets (now (self .entry))) ⌝ }
+        ensures short { λ _. ⌜ length (body-octets (now (self .entry))) ≤ 100 ⌝ }
     {
+        self.stands();
         &self.octets[0..self.len]
     }
 }

@@ -1,17 +1,14 @@
-// What a record holds, says and is.
+// What a record is, and what it says.
 ghost use mathlib.Core.Path.{_≡_};
 ghost use Rattle.frame.specs.Meaning.{lsp-said};
 ghost use Rattle.record.specs.Forms.{record-said, is-live, form-of, Well-formed};
 ghost use Rattle.record.specs.Saying.{Writes-record};
 ghost use Rattle.record.specs.Order.{recency, rank, Stands};
-use crate::body::Body;
 use crate::form::Form;
 use crate::form::Recency;
 use crate::record::Record;
 use fault::FrameFault;
 use frame::Lsp;
-use octets::CheckOctets;
-use octets::LspId;
 use writer::write_lsp;
 
 impl Record {
@@ -19,49 +16,6 @@ impl Record {
     fn stands(&self)
         ensures { λ _. ⌜ Well-formed (now (self .entry)) ⌝ }
     {}
-
-    pub fn id(&self) -> LspId
-        ensures { λ r. ⌜ r ≡ now (self .entry) .id ⌝ }
-    {
-        self.id
-    }
-
-    pub fn number(&self) -> u32
-        ensures { λ r. ⌜ r ≡ now (self .entry) .number ⌝ }
-    {
-        self.number
-    }
-
-    pub fn lifetime(&self) -> u16
-        ensures { λ r. ⌜ r ≡ now (self .entry) .lifetime ⌝ }
-    {
-        self.lifetime
-    }
-
-    pub fn check(&self) -> CheckOctets
-        ensures { λ r. ⌜ r ≡ now (self .entry) .check ⌝ }
-    {
-        self.check
-    }
-
-    // The flag octet.
-    pub fn flags(&self) -> u8
-        ensures { λ r. ⌜ r ≡ now (self .entry) .flags ⌝ }
-    {
-        self.flags
-    }
-
-    pub fn body(&self) -> Body
-        ensures { λ r. ⌜ r ≡ now (self .entry) .body ⌝ }
-    {
-        self.body
-    }
-
-    pub fn wait(&self) -> u8
-        ensures { λ r. ⌜ r ≡ now (self .entry) .wait ⌝ }
-    {
-        self.wait
-    }
 
     // Its form; whichever it is, the record has what the form asks.
     pub fn form(&self) -> Form

@@ -8,6 +8,7 @@ mod forms;
 mod makes;
 mod port;
 mod ports;
+mod reads;
 mod record;
 
 pub use body::Body;

@@ -132,10 +132,11 @@ impl Record {
     pub fn purge(id: LspId, number: u32, flags: u8) -> Option<Record>
         ensures { λ r. ⌜ BySome r (number ≡ 0) (λ x. (1 ≤ number) × Emptied id number flags x) ⌝ }
     {
-        if number == 0 {
-            return None;
+        if number > 0 {
+            Some(emptied(id, number, flags))
+        } else {
+            None
         }
-        Some(emptied(id, number, flags))
     }
 
     // A placeholder; it waits 60.

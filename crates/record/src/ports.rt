@@ -7,6 +7,7 @@ ghost use Rattle.std.specs.Options.{Cases as BySome};
 ghost use Rattle.record.specs.Bits.{Bits-stand};
 ghost use Rattle.record.specs.Flags.{has-port};
 use crate::bits::bit_at;
+use crate::bits::no_bits;
 use crate::bits::with_bits;
 use crate::bits::without_bits;
 use crate::port::Port;
@@ -35,7 +36,7 @@ impl Ports {
         ensures is { λ r. ⌜ ((k : ℕ) → has-port r k ≡ false) ⌝ }
         ensures bits { λ _. ⌜ Bits-stand ⌝ }
     {
-        Ports { bits: 0 }
+        Ports { bits: no_bits() }
     }
 
     // One port.

@@ -3,13 +3,14 @@ use Prim.Native.Nat.{ℕ, zero, suc, _+_, _<_, _≤_}
 use mathlib.Core.Path.{_≡_, refl, sym, _∙_, ap}
 use mathlib.Core.List.{List, [], _∷_, _++_, append-assoc}
 use mathlib.Core.Bool.{Bool, true, false, cond, _&&_}
+use mathlib.Core.Logic.{inl, inr}
 use native.Mathlib.Omega.{arith}
 use native.Mathlib.Numerals.{add-one}
 use lib.ListN.{length, getD, set, take, drop}
 use lib.Dec.{eqb, ltb}
 use Rattle.std.specs.Options.{isSome}
-use Rattle.std.proofs.shelf.Tests.{and-parts, and-from, false≢true, cond-true, cond-false, ltb-true, ltb-false, lt-ltb, ne-eqb, eqb-true, eqb-false}
-use Rattle.std.proofs.shelf.Lists.{drop-more, take-more, take-more-set, drop-set-lt, set-split, take-all, drop-all}
+use Rattle.std.proofs.shelf.Tests.{cases-bool, and-parts, and-from, false≢true, cond-true, cond-false, ltb-true, ltb-false, lt-ltb, ne-eqb, eqb-true, eqb-false}
+use Rattle.std.proofs.shelf.Lists.{drop-more, take-more, take-more-set, drop-set-lt, set-split, take-all, drop-all, set-getD}
 use Rattle.record.specs.declared.record.Record.{Record}
 use Rattle.store.specs.Lists.{key-of, rises, above, placed, lookup}
 
@@ -87,6 +88,24 @@ module _
 
     pub swapped-rest : drop (i + 1) (set cur i carry) ≡ drop (i + 1) xs
     swapped-rest = drop-set-lt (i + 1) cur i carry (omega arith) ∙ rest
+
+    -- the record that comes first stays, and the other goes on
+    pub settled :
+        (s g : Record) → s ≡ cond (ltb (key-of carry) (key-of x)) carry x → g ≡ cond (ltb (key-of carry) (key-of x)) x carry →
+        rises xs ≡ true → eqb (key-of x) (key-of carry) ≡ false →
+        (take (i + 1) (set cur i s) ++ placed g (drop (i + 1) xs) ≡ placed item xs) × (drop (i + 1) (set cur i s) ≡ drop (i + 1) xs)
+    settled s g p q r d =
+        elim (cases-bool (ltb (key-of carry) (key-of x))) [
+          | inl t ↦
+              (let a : s ≡ carry = p ∙ cond-true _ _ _ t in
+              let b : g ≡ x = q ∙ cond-true _ _ _ t in
+              rw (a, b) (swapped r t, swapped-rest))
+          | inr t ↦
+              (let a : s ≡ x = p ∙ cond-false _ _ _ t in
+              let b : g ≡ carry = q ∙ cond-false _ _ _ t in
+              let e : set cur i x ≡ cur = ap (λ (y : Record). set cur i y) X ∙ set-getD cur i x in
+              rw (a, b, e) (passed d t, rest))
+        ]
 
     pub replaced : eqb (key-of x) (key-of carry) ≡ true → set cur i carry ≡ placed item xs
     replaced e =

@@ -60,14 +60,26 @@ fault-is : (t : Lists) (r : ℕ) (x : Record) → r < 8 → (b : Bool) → is-fu
 fault-is t r x l true e = rw (lt-leb 8 r l, e) refl
 fault-is t r x l false e = rw (lt-leb 8 r l, e) refl
 
-pub set-full :
-    (t u : Lists) (r : ℕ) (x : Record) → r < 8 → is-full x (of-router t r) ≡ true → of-router u r ≡ of-router t r → u ≡ set t r (of-router u r) →
-    Sets t u r x (Err Full)
-set-full t u r x l h e s =
-    record {
-      is = sym (ap (λ (o : Option CallFault). unless o tt) (fault-is t r x l true h));
-      after = s ∙ (ap (λ (z : List Record). set t r z) e ∙ set-getD t r []);
-    }
+-- a set in one row; w was read there, and v stands there now
+module _
+    (ws : List Row) (r : ℕ) (w v : Row) (x : Record) (l : r < 8) (n : length ws ≡ 8) (e : of-router (all-kept ws) r ≡ kept w)
+  where
+    fault-of : (b : Bool) → is-full x (kept w) ≡ b → set-fault (all-kept ws) r x ≡ cond b (Some Full) None
+    fault-of b h = fault-is (all-kept ws) r x l b (ap (is-full x) e ∙ h)
+
+    pub set-there : (is-full x (kept w) ≡ false) × (kept v ≡ placed x (kept w)) → Sets (all-kept ws) (all-kept (set ws r v)) r x (Ok tt)
+    set-there h =
+        record {
+          is = sym (ap (λ (o : Option CallFault). unless o tt) (fault-of false (h .0)));
+          after = rows-set ws r v ∙ ap (λ (z : List Record). set (all-kept ws) r z) (h .1 ∙ ap (placed x) (sym e));
+        }
+
+    pub set-full : (is-full x (kept w) ≡ true) × (kept v ≡ kept w) → Sets (all-kept ws) (all-kept (set ws r v)) r x (Err Full)
+    set-full h =
+        record {
+          is = sym (ap (λ (o : Option CallFault). unless o tt) (fault-of true (h .0)));
+          after = rows-set ws r v ∙ (ap (λ (z : List Record). set (all-kept ws) r z) (h .1 ∙ sym e) ∙ set-getD (all-kept ws) r []);
+        }
 
 -- a set that is refused, as one of the calls
 pub set-refused :

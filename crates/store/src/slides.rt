@@ -1,9 +1,9 @@
 // Records in an array, by rising identifier: search, insertion and removal.
 ghost use mathlib.Core.Path.{_≡_};
-ghost use mathlib.Core.Bool.{true};
-ghost use Prim.Native.Nat.{_-_, _≤_, _<_};
+ghost use mathlib.Core.Bool.{cond, true};
+ghost use Prim.Native.Nat.{_+_, _-_, _<_};
 ghost use lib.Dec.{eqb, ltb};
-ghost use lib.ListN.{length, take};
+ghost use lib.ListN.{getD, length, take};
 ghost use Rattle.std.specs.shelf.Lists.{removed};
 ghost use Rattle.octets.specs.Octets.{value};
 ghost use Rattle.store.specs.Lists.{key-of, rises, place-of};
@@ -27,11 +27,24 @@ fn is_of(item: &Record, id: LspId) -> bool
     same_id(item.id(), id)
 }
 
-// Whether a record comes before another.
-fn comes_before(a: &Record, b: &Record) -> bool
-    ensures { λ r. ⌜ r ≡ ltb (key-of (now (a .entry))) (key-of (now (b .entry))) ⌝ }
+// Which of two records stays in a place and which goes on: the one that comes first stays.
+fn settle(here: Record, carry: Record) -> (Record, Record)
+    ensures stays { λ r. ⌜ r .0 ≡ cond (ltb (key-of carry) (key-of here)) carry here ⌝ }
+    ensures goes { λ r. ⌜ r .1 ≡ cond (ltb (key-of carry) (key-of here)) here carry ⌝ }
 {
-    before(a.id(), b.id())
+    if before(carry.id(), here.id()) {
+        (carry, here)
+    } else {
+        (here, carry)
+    }
+}
+
+// The record behind a place.
+fn behind(items: &[Record], at: usize) -> Record
+    requires { ⌜ at + 1 < length (now items) ⌝ }
+    ensures { λ r. ⌜ r ≡ getD (now (items .entry)) (at + 1) r ⌝ }
+{
+    items[at + 1]
 }
 
 // Where the record of an identifier stands, or how many records there are.
@@ -58,10 +71,9 @@ pub(crate) fn slide(items: &mut [Record], item: Record) -> Option<Record>
             items[i] = carry;
             return None;
         }
-        if comes_before(&carry, &here) {
-            items[i] = carry;
-            carry = here;
-        }
+        let (stays, goes_on) = settle(here, carry);
+        items[i] = stays;
+        carry = goes_on;
     }
     Some(carry)
 }
@@ -73,6 +85,6 @@ pub(crate) fn close(items: &mut [Record], at: usize)
 {
     let last = items.len() - 1;
     for i in at..last {
-        items[i] = items[i + 1];
+        items[i] = behind(items, i);
     }
 }

@@ -5,7 +5,7 @@ ghost use Prim.Native.Nat.{_<_};
 ghost use lib.ListN.{length, replicate, set};
 ghost use Rattle.octets.specs.Octets.{value};
 ghost use Rattle.store.specs.Lists.{of-router, lookup, without, nth as nth-of};
-ghost use Rattle.store.specs.Sliding.{Fills};
+ghost use Rattle.store.specs.Calls.{Sets};
 ghost use Rattle.store.specs.Kept.{all-kept};
 use crate::Store;
 use crate::row::Row;
@@ -17,12 +17,15 @@ use record::Record;
 
 const ROUTERS: usize = 8;
 
-fn set_in(rows: &mut [Row], router: usize, item: Record) -> bool
-    requires { ⌜ router < length (now rows) ⌝ }
-    ensures fills { λ r. ⌜ Fills (of-router (all-kept (now (rows .entry))) router) (of-router (all-kept (now (rows .exit))) router) item r ⌝ }
-    ensures rest { λ _. ⌜ all-kept (now (rows .exit)) ≡ set (all-kept (now (rows .entry))) router (of-router (all-kept (now (rows .exit))) router) ⌝ }
+fn set_in(rows: &mut [Row], router: usize, item: Record) -> Result<(), CallFault>
+    requires { ⌜ (router < 8) × (length (now rows) ≡ 8) ⌝ }
+    ensures { λ r. ⌜ Sets (all-kept (now (rows .entry))) (all-kept (now (rows .exit))) router item r ⌝ }
 {
-    rows[router].set(item)
+    if rows[router].set(item) {
+        Ok(())
+    } else {
+        Err(CallFault::Full)
+    }
 }
 
 fn remove_in(rows: &mut [Row], router: usize, id: LspId) -> Option<Record>
@@ -61,11 +64,7 @@ pub impl Store for Table as TableStore {
         if router >= ROUTERS {
             return Err(CallFault::Unknown);
         }
-        if set_in(&mut self.rows, router, item) {
-            Ok(())
-        } else {
-            Err(CallFault::Full)
-        }
+        set_in(&mut self.rows, router, item)
     }
 
     fn remove(&mut self, router: usize, id: LspId) -> Result<Option<Record>, CallFault> {

@@ -12,10 +12,10 @@ loop-i-holds c =
 pub loop-i-again : need.loop-i-again
 loop-i-again c = (
   omega (arith, c .loop-i .inv .0),
-  closed-more (c .args .items .now) (c .loop-i .items) (c .args .at) (c .loop-i .i) (c .index-items-i .result) (omega arith) (c .loop-i .kept .items)
-      (c .loop-i .inv .0) (c .loop-i .inv .1) (c .loop-i .inv .2) (c .index-items-i .is),
-  closed-rest (c .args .items .now) (c .loop-i .items) (c .args .at) (c .loop-i .i) (c .index-items-i .result) (omega arith) (c .loop-i .kept .items)
-      (c .loop-i .inv .0) (c .loop-i .inv .1) (c .loop-i .inv .2) (c .index-items-i .is),
+  closed-more (c .args .items .now) (c .loop-i .items) (c .args .at) (c .loop-i .i) (c .behind .result) (omega arith) (c .loop-i .kept .items)
+      (c .loop-i .inv .0) (c .loop-i .inv .1) (c .loop-i .inv .2) (c .behind .ensures),
+  closed-rest (c .args .items .now) (c .loop-i .items) (c .args .at) (c .loop-i .i) (c .behind .result) (omega arith) (c .loop-i .kept .items)
+      (c .loop-i .inv .0) (c .loop-i .inv .1) (c .loop-i .inv .2) (c .behind .ensures),
 )
 
 pub returns : need.returns
