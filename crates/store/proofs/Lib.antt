@@ -1,0 +1,4 @@
+pub mod Placing
+pub mod Removing
+pub mod Rowing
+pub mod Tabling

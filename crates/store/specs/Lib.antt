@@ -1,0 +1,5 @@
+pub mod Lists
+pub mod Calls
+pub mod Sliding
+pub mod Kept
+pub mod Asking
