@@ -41,23 +41,61 @@ fn computed_checks() -> Result<(), Fail> {
     Ok(())
 }
 
-// The parts of these LSPs from octet 12 on, with 09 09 for check octets, and the right ones.
-static PARTS: [(&[u8], [u8; 2]); 4] = [
-    (b"\0\0\0\0\0\x01\0\0\0\0\0\x01\x09\x09\x01", [0xf6, 0x06]),
-    (b"\0\0\0\0\0\x01\0\0\0\0\0\x02\x09\x09\x01", [0xf4, 0x07]),
+// The parts of these LSPs from octet 12 on, with 09 09 at places 13 and 14, counted from 1, and the right check octets
+// there. The others have no octets but the check octets, or no places for them.
+static PARTS: [(&[u8], usize, Option<[u8; 2]>); 7] = [
+    (
+        b"\0\0\0\0\0\x01\0\0\0\0\0\x01\x09\x09\x01",
+        13,
+        Some([0xf6, 0x06]),
+    ),
+    (
+        b"\0\0\0\0\0\x01\0\0\0\0\0\x02\x09\x09\x01",
+        13,
+        Some([0xf4, 0x07]),
+    ),
     (
         b"\0\0\0\0\0\x01\0\0\0\0\0\x01\x09\x09\x01\x81\x01\xcc",
-        [0x30, 0x7d],
+        13,
+        Some([0x30, 0x7d]),
     ),
-    (b"\0\0\0\0\0\x01\0\0\0\0\0\x7c\x09\x09\x01", [0xff, 0x81]),
+    (
+        b"\0\0\0\0\0\x01\0\0\0\0\0\x7c\x09\x09\x01",
+        13,
+        Some([0xff, 0x81]),
+    ),
+    (b"\x09\x09", 1, Some([0xff, 0xff])),
+    (b"\x09\x09", 0, None),
+    (b"\x09\x09", 2, None),
 ];
 
 #[test]
 fn part_checks() -> Result<(), Fail> {
-    for (part, want) in &PARTS {
-        let c = check_octets(*part, 13).ok_or("no places")?;
-        check_eq([c.x, c.y], *want)?;
-        check(!is_right(*part, 13))?;
+    for (part, p, want) in &PARTS {
+        let got = match check_octets(*part, *p) {
+            Some(c) => Some([c.x, c.y]),
+            None => None,
+        };
+        check_eq(got, *want)?;
+    }
+    Ok(())
+}
+
+// A part, the place of its check octets, and whether they are right.
+static RIGHT: [(&[u8], usize, bool); 7] = [
+    (b"\0\0\0\0\0\x01\0\0\0\0\0\x01\xf6\x06\x01", 13, true),
+    (b"\0\0\0\0\0\x01\0\0\0\0\0\x7c\xff\x81\x01", 13, true),
+    (b"\0\0\0\0\0\x01\0\0\0\0\0\x7c\x00\x81\x01", 13, false),
+    (b"\0\0\0\0\0\x01\0\0\0\0\0\x01\xf6\x07\x01", 13, false),
+    (b"\xff\xff", 1, true),
+    (b"\xff\xff", 0, false),
+    (b"\xff\xff", 2, false),
+];
+
+#[test]
+fn right_checks() -> Result<(), Fail> {
+    for (part, p, want) in &RIGHT {
+        check_eq(is_right(*part, *p), *want)?;
     }
     Ok(())
 }
@@ -75,13 +113,6 @@ fn covered_parts() -> Result<(), Fail> {
         check_eq(covered(*frame), *want)?;
     }
     Ok(())
-}
-
-// Check octets stand at places p and p + 1, counted from 1.
-#[test]
-fn places() -> Result<(), Fail> {
-    check(check_octets(&[1, 2], 0).is_none() && check_octets(&[1, 2], 2).is_none())?;
-    check(check_octets(&[1, 2], 1).is_some())
 }
 
 // Two identifiers, and their order, of which the first octet weighs most.

@@ -25,11 +25,17 @@ fn check_cases(heap: Global, cases: &[Case]) -> Result<(), Fail> {
     Ok(())
 }
 
-// The front of a summary, so many entries, octets behind them, the frame's size, and the answer to it.
+// The front of a frame, so many entries, octets behind them, the frame's size, and the answer to it.
 struct Listing(&'static [u8], u8, &'static [u8], usize, Result<u8, Refusal>);
 
-static LISTINGS: [Listing; 15] = [
-    Listing(BARE_CSNP, 0, b"", 35, Err((5, 33))),
+// An LSP's octets behind its header are a body: zeros are fields of two octets. 09 00 is a field of no entries.
+static LISTINGS: [Listing; 20] = [
+    Listing(PURGED_LSP, 0, &[0; 2], 29, Ok(18)),
+    Listing(PURGED_LSP, 0, &[0; 100], 127, Ok(18)),
+    Listing(PURGED_LSP, 0, &[0; 101], 128, Err((5, 27))),
+    Listing(PURGED_LSP, 0, &[0; 248], 275, Err((5, 27))),
+    Listing(PURGED_LSP, 0, &[0; 249], 276, Err((4, 8))),
+    Listing(BARE_CSNP, 0, b"\x09\0", 35, Err((5, 33))),
     Listing(BARE_CSNP, 1, b"", 51, Ok(24)),
     Listing(BARE_CSNP, 1, b"\0", 52, Err((5, 33))),
     Listing(BARE_CSNP, 9, b"", 179, Ok(24)),
@@ -37,7 +43,7 @@ static LISTINGS: [Listing; 15] = [
     Listing(BARE_CSNP, 16, b"", 291, Err((4, 8))),
     Listing(WIDE_CSNP, 15, b"", 275, Ok(24)),
     Listing(WIDE_CSNP, 15, b"\0", 276, Err((4, 8))),
-    Listing(BARE_PSNP, 0, b"", 19, Err((5, 17))),
+    Listing(BARE_PSNP, 0, b"\x09\0", 19, Err((5, 17))),
     Listing(BARE_PSNP, 1, b"", 35, Ok(26)),
     Listing(BARE_PSNP, 1, b"\x09\0", 37, Err((5, 17))),
     Listing(BARE_PSNP, 15, b"", 259, Ok(26)),
@@ -47,35 +53,16 @@ static LISTINGS: [Listing; 15] = [
 ];
 
 #[test]
-fn summary_lengths(rt: LibcRuntime) -> Result<(), Fail> {
+fn lengths(rt: LibcRuntime) -> Result<(), Fail> {
     for case in &LISTINGS {
-        let mut tail = listing(rt.alloc(), case.1)?;
-        tail.extend_from_slice(case.2)?;
-        let frame = joined(rt.alloc(), case.0, &tail)?;
+        let front = summary_frame(rt.alloc(), case.0, case.1)?;
+        let frame = joined(rt.alloc(), &front, case.2)?;
         check_eq((frame.len(), answer(&frame)), (case.3, case.4))?;
     }
     Ok(())
 }
 
-// A purged LSP's body, and the answer to the LSP. Zeros are fields of two octets.
-static BODIES: [(&[u8], Result<u8, Refusal>); 5] = [
-    (&[0; 2], Ok(18)),
-    (&[0; 100], Ok(18)),
-    (&[0; 101], Err((5, 27))),
-    (&[0; 248], Err((5, 27))),
-    (&[0; 249], Err((4, 8))),
-];
-
-#[test]
-fn lsp_lengths(rt: LibcRuntime) -> Result<(), Fail> {
-    for (body, want) in &BODIES {
-        let frame = joined(rt.alloc(), PURGED_LSP, *body)?;
-        check_eq(answer(&frame), *want)?;
-    }
-    Ok(())
-}
-
-// An LSP that is cut: octet 8 and 9 are its length, 27.
+// An LSP that is cut. Its length says 27.
 #[test]
 fn cut_lsps() -> Result<(), Fail> {
     let lsp: &[u8] = LSP;

@@ -106,7 +106,7 @@ pub(crate) fn entry(at_five: u8) -> Entry {
 }
 
 // A field of so many entries, from entry(1) on. Its length octet is 0 for 16 entries.
-pub(crate) fn listing(heap: Global, count: u8) -> Result<Vec<u8>, AllocError> {
+fn listing(heap: Global, count: u8) -> Result<Vec<u8>, AllocError> {
     let mut tail = vec![in heap; 9, count % 16 * 16]?;
     for k in 0..count {
         tail.extend_from_slice(b"\x04\xb0\x00\x00\x00\x00\x00")?;

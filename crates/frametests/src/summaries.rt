@@ -94,15 +94,6 @@ fn writes_psnps() -> Result<(), Fail> {
     check_written(listed(0)?.close_psnp(), BARE_PSNP)
 }
 
-#[test]
-fn writes_listings(rt: LibcRuntime) -> Result<(), Fail> {
-    for count in [1, 14, 15] {
-        check_listed(rt.alloc(), listed(count)?.close_psnp(), BARE_PSNP, count)?;
-    }
-    let whole = csnp(listed(15)?, [0; 8], [255; 8])?;
-    check_listed(rt.alloc(), whole, WIDE_CSNP, 15)
-}
-
 // Checks that a summary is written in this size and read with entry(1) to entry(count).
 fn check_read(summary: ClosedSummary, size: usize, count: u8) -> Result<(), Fail> {
     let mut buf = [0; 275];
