@@ -9,6 +9,9 @@ mod reader;
 mod snp;
 
 pub use kind::Kind;
+pub use kind::KindDebug;
+pub use kind::KindEq;
+pub use kind::KindPartialEq;
 pub use message::Csnp;
 pub use message::Entries;
 pub use message::Entry;

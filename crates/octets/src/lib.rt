@@ -4,6 +4,9 @@ mod fields;
 mod ids;
 
 pub use checks::CheckOctets;
+pub use checks::CheckOctetsDebug;
+pub use checks::CheckOctetsEq;
+pub use checks::CheckOctetsPartialEq;
 pub use checks::Sums;
 pub use checks::check_octets;
 pub use checks::covered;
