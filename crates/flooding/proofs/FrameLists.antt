@@ -1,5 +1,5 @@
 -- Which identifiers a list of frames mentions: frames in ranges and frames of parts mention each of theirs once; rising lists.
-use mathlib.Core.Path.{_≡_, refl, ap}
+use mathlib.Core.Path.{subst, _≡_, refl, ap}
 use mathlib.Core.Logic.{_≢_, _⊎_, inl, inr}
 use mathlib.Core.List.{List, [], _∷_, _++_}
 use Prim.Native.Nat.{ℕ, suc, _+_, _≤_, _<_}
@@ -107,16 +107,26 @@ without (later-in {j = h} q) =
     let (m, e, f) = without q in
     (h ∷ m, ap suc e, λ j n z. elim (uncons z) [ inl y ↦ rw y first-in | inr y ↦ later-in (f j n y) ])
 
-pub rising-no-longer : Rising-no-longer
-rising-no-longer lo [] u r h = omega arith
-rising-no-longer lo (i ∷ l) u (rising-more a r) h =
+no-longer : (lo : ℕ) (l u : List ℕ) → Rising lo l → ((i : ℕ) → In i l → In i u) → length l ≤ length u
+no-longer lo [] u r h = omega arith
+no-longer lo (i ∷ l) u (rising-more a r) h =
     let w = without (h i first-in) in
-    let z = rising-no-longer (suc i) l (w .0) r (λ j q. w .2 j (apart j q) (h j (later-in q))) in
+    let z = no-longer (suc i) l (w .0) r (λ j q. w .2 j (apart j q) (h j (later-in q))) in
     let e = w .1 in
     omega arith
   where
     apart : (j : ℕ) → In j l → j ≢ i
     apart j q e = let z = rise-in r q in omega arith
+
+pub rising-no-longer : Rising-no-longer
+rising-no-longer lo l all r h = (no-longer lo l all r h, λ j a n. lacks j a n)
+  where
+    lacks : (j : ℕ) → In j all → (In j l → ⊥) → length l < length all
+    lacks j a n =
+        let w = without a in
+        let z = no-longer lo l (w .0) r (λ i q. w .2 i (λ e. n (subst (λ (y : ℕ). In y l) e q)) (h i q)) in
+        let e = w .1 in
+        omega arith
 
 pub parts-mention-once : Parts-mention-once
 parts-mention-once lo l fs r c i =

@@ -61,6 +61,9 @@ Parts-mention-once =
     (lo : ℕ) (l : List ℕ) (fs : List Frame) → Rising lo l → Cut-into l fs →
     (i : ℕ) → (In i l → Mentions-once i fs) × ((In i l → ⊥) → Never-mentions i fs)
 
--- a rising list drawn from another list is no longer than that: a database of identifiers that belong to slots is never longer than the slots
+-- A rising list drawn from another list is no longer than that, and shorter if it lacks one of it: a database of identifiers that belong to slots is
+-- never longer than there are slots, and has room for each that it lacks.
 abbrev pub Rising-no-longer : Type 0
-Rising-no-longer = (lo : ℕ) (l all : List ℕ) → Rising lo l → ((i : ℕ) → In i l → In i all) → length l ≤ length all
+Rising-no-longer =
+    (lo : ℕ) (l all : List ℕ) → Rising lo l → ((i : ℕ) → In i l → In i all) →
+    (length l ≤ length all) × ((j : ℕ) → In j all → (In j l → ⊥) → length l < length all)

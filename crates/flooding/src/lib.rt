@@ -1,10 +1,11 @@
 // Flooding. The theorems about it stand in the contracts of these functions, and their statements in specs/: read specs/Convergence first.
 ghost use Rattle.flooding.specs.AllIds.{Projects};
-ghost use Rattle.flooding.specs.Consistency.{Issued, Keeps-the-book, Runs-are-consistent, Sent-is-allowed, Unissued-unheld};
+ghost use Rattle.flooding.specs.Consistency.{Issued, Runs-are-consistent, Sent-is-allowed, Unissued-unheld};
 ghost use Rattle.flooding.specs.Convergence.{Converges, Converges-by-hops};
 ghost use Rattle.flooding.specs.Frames.{Parts-mention-once, Ranges-mention-once, Rising-no-longer};
 ghost use Rattle.flooding.specs.HeardCopies.{Heard-by-rule};
 ghost use Rattle.flooding.specs.Hops.{Converges-while-held, Reached-by-all, Reached-by-hops, Windows-carry};
+ghost use Rattle.flooding.specs.IssueBook.{Keeps-the-book};
 ghost use Rattle.flooding.specs.Ranks.{Ranks};
 
 // After 20 × (N + B) ticks, of which at most B missed a frame, all N routers hold what the owner holds.
