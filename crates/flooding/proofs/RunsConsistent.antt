@@ -6,7 +6,7 @@ use Prim.Native.Nat.{ℕ, suc}
 use native.Mathlib.Omega.{arith}
 use Rattle.flooding.specs.Copies.{Topology, Held, held, Holdings, Mention, copy, entry, unlisted, Live, Not-live}
 use Rattle.flooding.specs.Stretches.{Left-alone, none-kept, held-kept}
-use Rattle.flooding.specs.CopyRuns.{Slot, View, Full-tick, Other-call, Call, other, issue, withdraw, Ticks, Run, opened}
+use Rattle.flooding.specs.CopyRuns.{Slot, View, Full-tick, Other-call, Call, other, issue, withdraw, Ticks, opened, called, ticked}
 use Rattle.flooding.specs.Consistency.{Allowed, Not-newer, Consistent, Consistent-view, Runs-are-consistent, Live-issue, Issued, Newer-lsp, Sent-is-allowed}
 use Rattle.flooding.proofs.PutsToTicks.{turns-keep}
 use Rattle.flooding.proofs.CallsBetween.{left-alone-live}
@@ -70,8 +70,8 @@ runs-are-consistent v (opened a e f h) = record {
   numbered = λ z. clash z a;
   not-live = λ z. rw (h (v .topology .owner)) tt;
 }
-runs-are-consistent w (Run.call {v = v} r c) = consistent-call c (runs-are-consistent v r)
-runs-are-consistent w (Run.tick {v = v} r k) = consistent-tick k (runs-are-consistent v r)
+runs-are-consistent w (called {v = v} r c) = consistent-call c (runs-are-consistent v r)
+runs-are-consistent w (ticked {v = v} r k) = consistent-tick k (runs-are-consistent v r)
 
 pub issued : Issued
 issued v r x k e p = go (subst (λ (h : Held). Allowed (v .slot) (v .clock) h) e (runs-are-consistent v r .allowed x))
