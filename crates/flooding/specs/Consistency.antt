@@ -48,6 +48,28 @@ abbrev pub Issued : Type 0
 Issued =
     (v : View) → Run v → (x : ℕ) (k : Copy) → v .holdings x ≡ held k → 1 ≤ k .lifetime → Live-issue (v .slot) (v .clock) (k .rank) (k .lifetime) (k .content)
 
+-- copies of one issue age in step: two live copies of one number have the same lifetime and content
+abbrev pub Copies-in-step : Type 0
+Copies-in-step =
+    (v : View) → Run v → (x y : ℕ) (k j : Copy) → v .holdings x ≡ held k → v .holdings y ≡ held j → 1 ≤ k .lifetime → k .rank ≡ j .rank →
+    (j .lifetime ≡ k .lifetime) × (j .content ≡ k .content)
+
+-- no copy has a number beyond the slot's last
+abbrev pub No-number-beyond : Type 0
+No-number-beyond = (v : View) → Run v → (x : ℕ) (k : Copy) → v .holdings x ≡ held k → k .rank ≤ suc (v .slot .last + v .slot .last)
+
+-- and while the slot is active there is no purge of its last number
+abbrev pub No-purge-of-last : Type 0
+No-purge-of-last =
+    (v : View) → Run v → v .topology .active ≡ true → (x : ℕ) (k : Copy) → v .holdings x ≡ held k → k .rank ≤ v .slot .last + v .slot .last
+
+-- the owner of an active slot holds its last number live, with the content and the end of that issue
+abbrev pub Active-owner-holds : Type 0
+Active-owner-holds =
+    (v : View) → Run v → v .topology .active ≡ true →
+    (k : Copy) × (v .holdings (v .topology .owner) ≡ held k) × (k .rank ≡ v .slot .last + v .slot .last) × (1 ≤ k .lifetime) ×
+    (k .lifetime + v .clock ≡ v .slot .ends (v .slot .last)) × (k .content ≡ v .slot .content (v .slot .last))
+
 -- An LSP that is sent carries an issue or a purge of one.
 abbrev pub Allowed-mention : Slot → ℕ → Mention → Type 0
 Allowed-mention S clock (copy R L C) = Allowed-copy S clock R L C
