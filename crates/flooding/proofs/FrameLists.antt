@@ -7,6 +7,7 @@ use native.Mathlib.Omega.{arith}
 use native.Mathlib.Decide.{decLt}
 use lib.ListN.{length}
 use Rattle.flooding.specs.Frames.{Frame, Never-mentions, no-frame, silent-frame, Mentions-once, in-first, in-later, In-ranges, no-more, range, Ranges-mention-once, In, first-in, later-in, Rising, rising-none, rising-more, Cut-into, cut-none, cut-more, Parts-mention-once, Rising-no-longer}
+use Rattle.flooding.specs.Copies.{Mention}
 
 -- frames in ranges mention each identifier of D once
 module _ (D : ℕ → Type 0) (j : ℕ) where
@@ -18,11 +19,11 @@ module _ (D : ℕ → Type 0) (j : ℕ) where
   ranges-never (no-more z) h = no-frame
   ranges-never (range next l a m q) h = silent-frame (m j (inr (inr h))) (ranges-never q h)
 
-  ranges-once : {lo : ℕ} {fs : List Frame} → In-ranges D lo fs → lo ≤ j → D j → Mentions-once j fs
+  ranges-once : {lo : ℕ} {fs : List Frame} → In-ranges D lo fs → lo ≤ j → D j → (w : Mention) × Mentions-once j w fs
   ranges-once (no-more z) h d = absurd (z j h d)
   ranges-once (range next l a m q) h d = elim (decLt j next) [
-    | yes i ↦ let w = a j h i d in in-first (w .0) (w .1) (ranges-past q i)
-    | no i ↦ let k : next ≤ j = omega arith in in-later (m j (inr (inl k))) (ranges-once q k d)
+    | yes i ↦ let w = a j h i d in (w .0, in-first (w .1) (ranges-past q i))
+    | no i ↦ let k : next ≤ j = omega arith in let w = ranges-once q k d in (w .0, in-later (m j (inr (inl k))) (w .1))
   ]
 
 pub ranges-mention-once : Ranges-mention-once
