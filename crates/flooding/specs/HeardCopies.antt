@@ -7,9 +7,11 @@ use lib.Dec.{eqb, ltb, leb}
 use Rattle.flooding.specs.Rules.{Hears}
 use Rattle.flooding.specs.Copies.{Topology, Copy, Held, none, held, Mention, copy, entry, unlisted, Content}
 
+-- the flag on circuit c set to b, the others as they are
 abbrev pub flag-set : ℕ → Bool → (ℕ → Bool) → ℕ → Bool
 flag-set c b f e = cond (eqb e c) b (f e)
 
+-- the rank of a live record
 abbrev pub live-rank : ℕ → Bool
 live-rank R = cond (ltb 1 R) (eqb (R % 2) 0) false
 
@@ -28,12 +30,14 @@ stored P x c R L C srm ssn = record {
   ssn = λ e. cond (eqb e c) (cond (P .point-to-point c) true (ssn e)) (cond (P .attached x e) false (ssn e));
 }
 
+-- a copy with another wait, and with SRM a and SSN b on circuit c
 abbrev pub marked : Copy → ℕ → ℕ → Bool → Bool → Copy
 marked k w c a b = record { rank = k .rank; lifetime = k .lifetime; content = k .content; wait = w; srm = flag-set c a (k .srm); ssn = flag-set c b (k .ssn) }
 
 abbrev pub no-flags : ℕ → Bool
 no-flags e = false
 
+-- router x, which is not the owner, hears a mention on circuit c
 unfoldable pub heard : Topology → ℕ → ℕ → Mention → Held → Held
 heard P x c (copy R L C) none = cond (live-rank R) (held (stored P x c R L C no-flags no-flags)) none
 heard P x c (copy R L C) (held k) =
