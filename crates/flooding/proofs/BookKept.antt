@@ -11,7 +11,8 @@ use Rattle.flooding.specs.Rules.{Reflagged, Owner-answers, Hears, own-newer, n
 use Rattle.flooding.specs.CopyTicks.{Ages, none-ages, live-ages, expires, wait-falls, deleted, Phase, not-due, sent, Turn, turn, Turns, done, then}
 use Rattle.flooding.specs.Stretches.{Left-alone, none-kept, held-kept}
 use Rattle.flooding.specs.CopyRuns.{Slot, View, Issue, Withdrawal, Call, other, issue, withdraw, Ticks}
-use Rattle.flooding.specs.Consistency.{Allowed, Consistent, Consistent-view, Not-older, None-older, Each-phase, Each-turn, Each-put, Tick-keeps, Keeps-the-book, Booked, Booked-between}
+use Rattle.flooding.specs.Consistency.{Allowed, Consistent, Consistent-view}
+use Rattle.flooding.specs.IssueBook.{Not-older, None-older, Each-phase, Each-turn, Each-put, Tick-keeps, Keeps-the-book, Booked, Booked-between}
 use Rattle.flooding.proofs.OneCopy
 use Rattle.flooding.proofs.PutsToTicks.{phase-keeps, turn-keeps}
 use Rattle.flooding.proofs.Invariant.{consistent-put, owner-hears-no-newer, number-bound}

@@ -1,7 +1,6 @@
 -- Convergence of runs: a stretch of a run is a held stretch (HeldThrough), windows carry the record to all (Windows), and live copies of one number
 -- are alike (the invariant).
-use mathlib.Core.Path.{_≡_, refl, sym, _∙_, ap, subst}
-use mathlib.Core.Logic.{inl, inr}
+use mathlib.Core.Path.{_≡_, refl, sym, _∙_, subst}
 use Prim.Native.Nat.{ℕ, _+_, _*_, _≤_}
 use native.Mathlib.Omega.{arith}
 use Rattle.flooding.specs.Copies.{Copy, Held, none, held, Holdings, Live}
@@ -10,17 +9,10 @@ use Rattle.flooding.specs.CopyRuns.{Slot}
 use Rattle.flooding.specs.Consistency.{Allowed}
 use Rattle.flooding.specs.Convergence.{Alike, Converges, Converges-by-hops}
 use Rattle.flooding.proofs.CallsBetween.{left-alone-live}
-use Rattle.flooding.proofs.RunsConsistent.{runs-are-consistent}
+use Rattle.flooding.proofs.RunsConsistent.{runs-are-consistent, copy-of-issue}
 use Rattle.flooding.proofs.HeldThrough.{held-through, in-step-at-start, stretch-consistent}
 use Rattle.flooding.proofs.Windows.{windows-carry, reached-by-hops}
 use Rattle.flooding.proofs.Ways.{way-within}
-
--- what the slot says of a live copy of number n
-copy-of-issue : (S : Slot) (clock n : ℕ) (k : Copy) → 1 ≤ n → Allowed S clock (held k) → k .rank ≡ n + n →
-    (1 ≤ k .lifetime) × (k .lifetime + clock ≡ S .ends n) × (k .content ≡ S .content n)
-copy-of-issue S clock n k one (inl (m, q, i, j, z, y, u)) r = let e : m ≡ n = omega arith in (z, y ∙ ap (S .ends) e, u ∙ ap (S .content) e)
-copy-of-issue S clock n k one (inr (z, inl y)) r = absurd (omega arith)
-copy-of-issue S clock n k one (inr (z, inr (m, y, j, i))) r = absurd (omega arith)
 
 -- two live copies of one number are alike
 alike : (S : Slot) (clock n : ℕ) (k : Copy) (h : Held) → 1 ≤ n → Allowed S clock (held k) → k .rank ≡ n + n → Allowed S clock h → Live n h →

@@ -1,5 +1,5 @@
 -- Which identifiers a list of frames mentions: frames in ranges and frames of parts mention each of theirs once; rising lists.
-use mathlib.Core.Path.{_≡_, refl, ap}
+use mathlib.Core.Path.{subst, _≡_, refl, ap}
 use mathlib.Core.Logic.{_≢_, _⊎_, inl, inr}
 use mathlib.Core.List.{List, [], _∷_, _++_}
 use Prim.Native.Nat.{ℕ, suc, _+_, _≤_, _<_}
@@ -7,6 +7,7 @@ use native.Mathlib.Omega.{arith}
 use native.Mathlib.Decide.{decLt}
 use lib.ListN.{length}
 use Rattle.flooding.specs.Frames.{Frame, Never-mentions, no-frame, silent-frame, Mentions-once, in-first, in-later, In-ranges, no-more, range, Ranges-mention-once, In, first-in, later-in, Rising, rising-none, rising-more, Cut-into, cut-none, cut-more, Parts-mention-once, Rising-no-longer}
+use Rattle.flooding.specs.Copies.{Mention}
 
 -- frames in ranges mention each identifier of D once
 module _ (D : ℕ → Type 0) (j : ℕ) where
@@ -18,11 +19,11 @@ module _ (D : ℕ → Type 0) (j : ℕ) where
   ranges-never (no-more z) h = no-frame
   ranges-never (range next l a m q) h = silent-frame (m j (inr (inr h))) (ranges-never q h)
 
-  ranges-once : {lo : ℕ} {fs : List Frame} → In-ranges D lo fs → lo ≤ j → D j → Mentions-once j fs
+  ranges-once : {lo : ℕ} {fs : List Frame} → In-ranges D lo fs → lo ≤ j → D j → (w : Mention) × Mentions-once j w fs
   ranges-once (no-more z) h d = absurd (z j h d)
   ranges-once (range next l a m q) h d = elim (decLt j next) [
-    | yes i ↦ let w = a j h i d in in-first (w .0) (w .1) (ranges-past q i)
-    | no i ↦ let k : next ≤ j = omega arith in in-later (m j (inr (inl k))) (ranges-once q k d)
+    | yes i ↦ let w = a j h i d in (w .0, in-first (w .1) (ranges-past q i))
+    | no i ↦ let k : next ≤ j = omega arith in let w = ranges-once q k d in (w .0, in-later (m j (inr (inl k))) (w .1))
   ]
 
 pub ranges-mention-once : Ranges-mention-once
@@ -107,16 +108,26 @@ without (later-in {j = h} q) =
     let (m, e, f) = without q in
     (h ∷ m, ap suc e, λ j n z. elim (uncons z) [ inl y ↦ rw y first-in | inr y ↦ later-in (f j n y) ])
 
-pub rising-no-longer : Rising-no-longer
-rising-no-longer lo [] u r h = omega arith
-rising-no-longer lo (i ∷ l) u (rising-more a r) h =
+no-longer : (lo : ℕ) (l u : List ℕ) → Rising lo l → ((i : ℕ) → In i l → In i u) → length l ≤ length u
+no-longer lo [] u r h = omega arith
+no-longer lo (i ∷ l) u (rising-more a r) h =
     let w = without (h i first-in) in
-    let z = rising-no-longer (suc i) l (w .0) r (λ j q. w .2 j (apart j q) (h j (later-in q))) in
+    let z = no-longer (suc i) l (w .0) r (λ j q. w .2 j (apart j q) (h j (later-in q))) in
     let e = w .1 in
     omega arith
   where
     apart : (j : ℕ) → In j l → j ≢ i
     apart j q e = let z = rise-in r q in omega arith
+
+pub rising-no-longer : Rising-no-longer
+rising-no-longer lo l all r h = (no-longer lo l all r h, λ j a n. lacks j a n)
+  where
+    lacks : (j : ℕ) → In j all → (In j l → ⊥) → length l < length all
+    lacks j a n =
+        let w = without a in
+        let z = no-longer lo l (w .0) r (λ i q. w .2 i (λ e. n (subst (λ (y : ℕ). In y l) e q)) (h i q)) in
+        let e = w .1 in
+        omega arith
 
 pub parts-mention-once : Parts-mention-once
 parts-mention-once lo l fs r c i =

@@ -7,19 +7,19 @@ use native.Mathlib.Omega.{arith}
 use lib.Dec.{eqb, ltb, leb}
 use Rattle.flooding.specs.Copies.{Topology, Copy, Held, none, held, Mention, copy, entry, unlisted, Newer, Content}
 use Rattle.flooding.specs.Rules.{Reflagged, Stored, Hears, newer-lsp, unknown-purge, same-lsp, older-lsp, unknown-not-live, unknown-entry, same-entry, older-entry, newer-entry, unlisted-none, unlisted-live, unlisted-purge}
-use Rattle.flooding.specs.HeardCopies.{Heard-by-rule, heard, set, isLive, stored, marked, never}
+use Rattle.flooding.specs.HeardCopies.{Heard-by-rule, heard, flag-set, live-rank, stored, marked, no-flags}
 use Rattle.flooding.proofs.Tests.{outcome, is-true, is-false, clash, eqb-is, eqb-same, eqb-not, eqb-isnt, ltb-is, ltb-isnt, leb-is, leb-isnt}
 
-set-same : (c : ℕ) (b : Bool) (f : ℕ → Bool) → set c b f c ≡ b
+set-same : (c : ℕ) (b : Bool) (f : ℕ → Bool) → flag-set c b f c ≡ b
 set-same c b f = rw (eqb-same c)
 
-set-other : (c e : ℕ) (b : Bool) (f : ℕ → Bool) → e ≢ c → set c b f e ≡ f e
+set-other : (c e : ℕ) (b : Bool) (f : ℕ → Bool) → e ≢ c → flag-set c b f e ≡ f e
 set-other c e b f n = rw (eqb-not e c n)
 
-live-newer : (R : ℕ) → isLive R ≡ true → Newer R none
+live-newer : (R : ℕ) → live-rank R ≡ true → Newer R none
 live-newer R e = let a : 1 < R = grind arith in let b : R % 2 ≡ 0 = grind arith in (R / 2, omega arith, omega arith)
 
-newer-live : (R : ℕ) → Newer R none → isLive R ≡ true
+newer-live : (R : ℕ) → Newer R none → live-rank R ≡ true
 newer-live R (j, e, p) = let a : 1 < R = omega arith in let b : R % 2 ≡ 0 = omega arith in grind arith
 
 reflagged-marked : (k : Copy) (w c : ℕ) (a b : Bool) → Reflagged c k (marked k w c a b)
@@ -28,7 +28,7 @@ reflagged-marked k w c a b = record { rank = refl; lifetime = refl; content = re
 wait-is : (w : ℕ) → (cond {A = ℕ} (eqb w 0) 0 60 ≡ 0) ⊎ (cond {A = ℕ} (eqb w 0) 0 60 ≡ 60)
 wait-is w = elim (outcome (eqb w 0)) [ is-true i ↦ inl (rw i) | is-false i ↦ inr (rw i) ]
 
-keeps-srm : (P : Topology) (c : ℕ) (k : Copy) → P .point-to-point c ≡ false → set c (cond (P .point-to-point c) false (k .srm c)) (k .srm) c ≡ k .srm c
+keeps-srm : (P : Topology) (c : ℕ) (k : Copy) → P .point-to-point c ≡ false → flag-set c (cond (P .point-to-point c) false (k .srm c)) (k .srm) c ≡ k .srm c
 keeps-srm P c k z = rw (eqb-same c, z)
 
 module _ (P : Topology) (x c : ℕ) (ne : x ≢ P .owner) where
@@ -46,8 +46,8 @@ module _ (P : Topology) (x c : ℕ) (ne : x ≢ P .owner) where
 
   heard-is : (w : Mention) (h : Held) → Hears P x c w h (heard P x c w h)
   unfolding heard
-  heard-is (copy R L C) none = elim (outcome (isLive R)) [
-    | is-true e ↦ rw e (newer-lsp (live-newer R e) (stored-is R L C never never))
+  heard-is (copy R L C) none = elim (outcome (live-rank R)) [
+    | is-true e ↦ rw e (newer-lsp (live-newer R e) (stored-is R L C no-flags no-flags))
     | is-false e ↦ rw e (unknown-purge (λ n. clash (newer-live R n) e))
   ]
   heard-is (copy R L C) (held k) = elim (outcome (ltb (k .rank) R)) [
@@ -58,8 +58,8 @@ module _ (P : Topology) (x c : ℕ) (ne : x ≢ P .owner) where
           rw (e, f) (older-lsp d (reflagged-marked k (k .wait) c _ _) refl (set-same c _ (k .srm)))
     ]
   ]
-  heard-is (entry R) none = elim (outcome (isLive R)) [
-    | is-true e ↦ rw e (unknown-entry (live-newer R e) refl refl refl (set-same c _ never))
+  heard-is (entry R) none = elim (outcome (live-rank R)) [
+    | is-true e ↦ rw e (unknown-entry (live-newer R e) refl refl refl (set-same c _ no-flags))
     | is-false e ↦ rw e (unknown-not-live (λ n. clash (newer-live R n) e))
   ]
   heard-is (entry R) (held k) = elim (outcome (ltb (k .rank) R)) [

@@ -8,7 +8,7 @@ use native.Mathlib.Nat.{add-zero, zero-add}
 use Rattle.flooding.specs.Copies.{Topology, Held, none, held, Holdings, Live, Not-live, Copy}
 use Rattle.flooding.specs.CopyTicks.{Turns}
 use Rattle.flooding.specs.Stretches.{Keeps-circuits, Left-alone, none-kept, held-kept, Step, Held-stretch, bit, count-of, In-step}
-use Rattle.flooding.specs.CopyRuns.{Slot, View, Call, other, issue, withdraw, Ticks, Stretch, begin}
+use Rattle.flooding.specs.CopyRuns.{Slot, View, Call, other, issue, withdraw, Ticks, Stretch, begun, with-call, with-tick}
 use Rattle.flooding.specs.Convergence.{Held-at-ends}
 use Rattle.flooding.specs.Consistency.{Allowed, Consistent, Consistent-view}
 use Rattle.flooding.proofs.Tests.{outcome, is-true, is-false, clash}
@@ -23,9 +23,9 @@ data Forward (Q : Topology) : View → View → ℕ → ℕ → Type 0 where
       Forward Q v z (suc m) (bit b + d)
 
 turned : {Q : Topology} {v w z : View} {m d m′ d′ : ℕ} → Stretch Q v w m d → Forward Q w z m′ d′ → Forward Q v z (m + m′) (d + d′)
-turned {m′ = m′} {d′ = d′} (begin k) r = rw (zero-add m′, zero-add d′) r
-turned (Stretch.call y c k) r = turned y (call-first c r)
-turned {Q} {v} {w} {z} {m′ = m′} {d′ = d′} (Stretch.tick {ticks = m} {missing = d} {missed = b} y t k) r =
+turned {m′ = m′} {d′ = d′} (begun k) r = rw (zero-add m′, zero-add d′) r
+turned (with-call y c k) r = turned y (call-first c r)
+turned {Q} {v} {w} {z} {m′ = m′} {d′ = d′} (with-tick {ticks = m} {missing = d} {missed = b} y t k) r =
     let e : m + suc m′ ≡ suc m + m′ = omega arith in
     let f : d + (bit b + d′) ≡ d + bit b + d′ = omega arith in
     subst (λ (i : ℕ). Forward Q v z i (d + bit b + d′)) e (subst (λ (i : ℕ). Forward Q v z (m + suc m′) i) f (turned y (tick-first t k r)))
@@ -174,19 +174,19 @@ active-with {P} {clock} {S} {s} n one Z l = elim (outcome (P .active)) [
     ended (held k) (inr (z, inr (m, y, j, i))) l e = omega arith
 
 keeps-start : {Q : Topology} {v w : View} {m d : ℕ} → Stretch Q v w m d → Keeps-circuits Q (v .topology)
-keeps-start (begin k) = k
-keeps-start (Stretch.call y c k) = keeps-start y
-keeps-start (Stretch.tick y t k) = keeps-start y
+keeps-start (begun k) = k
+keeps-start (with-call y c k) = keeps-start y
+keeps-start (with-tick y t k) = keeps-start y
 
 keeps-end : {Q : Topology} {v w : View} {m d : ℕ} → Stretch Q v w m d → Keeps-circuits Q (w .topology)
-keeps-end (begin k) = k
-keeps-end (Stretch.call y c k) = k
-keeps-end (Stretch.tick y t k) = k
+keeps-end (begun k) = k
+keeps-end (with-call y c k) = k
+keeps-end (with-tick y t k) = k
 
 pub stretch-consistent : {Q : Topology} {v w : View} {m d : ℕ} → Stretch Q v w m d → Consistent-view v → Consistent-view w
-stretch-consistent (begin k) Z = Z
-stretch-consistent (Stretch.call y c k) Z = consistent-call c (stretch-consistent y Z)
-stretch-consistent (Stretch.tick y t k) Z = consistent-tick t (stretch-consistent y Z)
+stretch-consistent (begun k) Z = Z
+stretch-consistent (with-call y c k) Z = consistent-call c (stretch-consistent y Z)
+stretch-consistent (with-tick y t k) Z = consistent-tick t (stretch-consistent y Z)
 
 module _ {Q : Topology} {v w : View} {m d n : ℕ} {k : Copy} (y : Stretch Q v w m d) (Z : Consistent-view v) (H : Held-at-ends Q v w n k) where
   live-start : Live n (v .holdings (v .topology .owner))

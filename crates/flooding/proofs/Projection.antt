@@ -1,39 +1,57 @@
 -- A tick of the whole network is, for each identifier, a tick of what is held of it.
-use mathlib.Core.Path.{_≡_, refl, sym, _∙_, subst, fun-ext}
-use mathlib.Core.Logic.{inl, inr}
+use mathlib.Core.Path.{_≡_, sym, _∙_, subst, fun-ext}
+use mathlib.Core.Logic.{_≢_, inl, inr}
 use mathlib.Core.Bool.{Bool}
 use mathlib.Core.List.{List}
 use Prim.Native.Nat.{ℕ}
-use Rattle.flooding.specs.Copies.{Topology, Holdings, Mention}
-use Rattle.flooding.specs.Rules.{Kind, Put}
+use Rattle.flooding.specs.Copies.{Topology, Holdings, Mention, Held}
+use Rattle.flooding.specs.Rules.{Kind, Put, Sends, Delivery, sender}
 use Rattle.flooding.specs.CopyTicks.{Phase, not-due, sent, Turn, turn, Turns, done, then}
-use Rattle.flooding.specs.Frames.{Saying, silent, mentions, Frame, Never-mentions, silent-frame, Mentions-once, in-first, in-later}
-use Rattle.flooding.specs.AllIds.{Databases, of-id, Delivered, Frame-put, Frames-put, all-put, one-put, All-phase, All-turn, all-turn, All-turns, all-done, all-then, Projects}
+use Rattle.flooding.specs.Frames.{Saying, Frame, Never-mentions, silent-frame, Mentions-once, in-first, in-later}
+use Rattle.flooding.specs.AllIds.{Databases, of-id, Delivered, Frames-put, all-put, one-put, All-phase, All-turn, all-turn, All-turns, all-done, all-then, Projects, Mentioned, Passed-over}
+use native.Mathlib.Decide.{ℕ-discrete}
+
+module _ (P : ℕ → Topology) (b : Bool) (i : ℕ) {r c : ℕ} {g : Kind} where
+  -- what the other routers hold of an identifier that the frames never mention
+  frames-never : {fs : List Frame} {s s′ : Databases} → Frames-put P b r c g fs s s′ → Never-mentions i fs → (x : ℕ) → x ≢ r → s′ x i ≡ s x i
+  frames-never (all-put k) n x o = k i x o
+  frames-never (one-put {s = s} {m = m} k q) (silent-frame e n) x o =
+      frames-never q n x o ∙ subst (λ (y : Saying). Delivered (P i) b r c g y x (s x i) (m x i)) e (k i x o)
+
+  -- and of one that they mention once
+  frames-once : {w : Mention} {fs : List Frame} {s s′ : Databases} → Frames-put P b r c g fs s s′ → Mentions-once i w fs → (x : ℕ) → x ≢ r →
+      Delivery (P i) b r c g w x (s x i) (s′ x i)
+  frames-once (all-put k) n x o = elim n [ ]
+  frames-once {w} (one-put {s = s} {m = m} k q) (in-first e n) x o =
+      subst (λ (y : Held). Delivery (P i) b r c g w x (s x i) y) (sym (frames-never q n x o))
+      (subst (λ (y : Saying). Delivered (P i) b r c g y x (s x i) (m x i)) e (k i x o))
+  frames-once {w} {s′ = s′} (one-put {s = s} {m = m} k q) (in-later e n) x o =
+      let z : m x i ≡ s x i = subst (λ (y : Saying). Delivered (P i) b r c g y x (s x i) (m x i)) e (k i x o) in
+      subst (λ (y : Held). Delivery (P i) b r c g w x y (s′ x i)) z (frames-once q n x o)
 
 module _ (P : ℕ → Topology) (b : Bool) (i : ℕ) where
-  frame-silent : {r c : ℕ} {g : Kind} {f : Frame} {s s′ : Databases} → Frame-put P b r c g f s s′ → f i ≡ silent → of-id i s′ ≡ of-id i s
-  frame-silent {r} {c} {g} {f} {s} {s′} k e = fun-ext (λ x. subst (λ (q : Saying). Delivered (P i) b r c g q x (s x i) (s′ x i)) e (k .delivery i x))
-
-  frame-mentions : {r c : ℕ} {g : Kind} {f : Frame} {s s′ : Databases} (w : Mention) → Frame-put P b r c g f s s′ → f i ≡ mentions w → Put (P i) b r c g (of-id i s) (of-id i s′)
-  frame-mentions {r} {c} {g} {f} {s} {s′} w k e = record {
-    mention = w;
-    sender-attached = k .sender-attached i;
-    delivery = λ x. subst (λ (q : Saying). Delivered (P i) b r c g q x (s x i) (s′ x i)) e (k .delivery i x);
+  mentioned-put : {t r c : ℕ} {g : Kind} {s s′ : Databases} (p : All-phase P b t r c g s s′) → Mentioned (P i) t r c g i (p .frames) (s r i) (s′ r i) →
+      Put (P i) b r c g (of-id i s) (of-id i s′)
+  mentioned-put {t} {r} {c} {g} {s} {s′} p m = record {
+    mention = m .mention;
+    sender-attached = p .sender-attached i;
+    delivery = λ x. elim (ℕ-discrete x r) [
+      | yes e ↦ sender e (subst (λ (y : ℕ). Sends (P i) r c g (m .mention) (s y i) (s′ y i)) (sym e) (m .sends))
+      | no e ↦ frames-once P b i (p .puts) (m .once) x e
+    ];
   }
 
-  frames-never : {r c : ℕ} {g : Kind} {fs : List Frame} {s s′ : Databases} → Frames-put P b r c g fs s s′ → Never-mentions i fs → of-id i s′ ≡ of-id i s
-  frames-never all-put n = refl
-  frames-never (one-put k q) (silent-frame e n) = frames-never q n ∙ frame-silent k e
-
-  frames-once : {r c : ℕ} {g : Kind} {fs : List Frame} {s s′ : Databases} → Frames-put P b r c g fs s s′ → Mentions-once i fs → Put (P i) b r c g (of-id i s) (of-id i s′)
-  frames-once all-put n = elim n [ ]
-  frames-once {r} {c} {g} {fs} {s} {s′} (one-put k q) (in-first w e n) = subst (λ (z : Holdings). Put (P i) b r c g (of-id i s) z) (sym (frames-never q n)) (frame-mentions w k e)
-  frames-once {r} {c} {g} {fs} {s} {s′} (one-put k q) (in-later e n) = subst (λ (z : Holdings). Put (P i) b r c g z (of-id i s′)) (frame-silent k e) (frames-once q n)
+  passed-over-same : {t r c : ℕ} {g : Kind} {s s′ : Databases} (p : All-phase P b t r c g s s′) → Passed-over (P i) t r c g i (p .frames) (s r i) (s′ r i) →
+      of-id i s′ ≡ of-id i s
+  passed-over-same {t} {r} {c} {g} {s} {s′} p m = fun-ext (λ x. elim (ℕ-discrete x r) [
+    | yes e ↦ subst (λ (y : ℕ). s′ y i ≡ s y i) (sym e) (m .kept)
+    | no e ↦ frames-never P b i (p .puts) (m .never) x e
+  ])
 
   all-phase-phase : {t r c : ℕ} {g : Kind} {s s′ : Databases} → All-phase P b t r c g s s′ → Phase (P i) b t r c g (of-id i s) (of-id i s′)
   all-phase-phase {t} {r} {c} {g} {s} {s′} p = elim (p .each i) [
-    | inl q ↦ sent (q .0) (frames-once (p .puts) (q .1))
-    | inr q ↦ subst (λ (z : Holdings). Phase (P i) b t r c g (of-id i s) z) (sym (frames-never (p .puts) (q .1))) (not-due (q .0))
+    | inl m ↦ sent (m .due) (mentioned-put p m)
+    | inr m ↦ subst (λ (z : Holdings). Phase (P i) b t r c g (of-id i s) z) (sym (passed-over-same p m)) (not-due (m .not-due))
   ]
 
   all-turn-turn : {t r c : ℕ} {s s′ : Databases} → All-turn P b t r c s s′ → Turn (P i) b t r c (of-id i s) (of-id i s′)

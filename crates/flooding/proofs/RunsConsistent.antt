@@ -1,17 +1,17 @@
 -- The invariant holds in every view that a run comes to: calls and whole ticks keep it.
-use mathlib.Core.Path.{sym, _∙_, subst}
+use mathlib.Core.Path.{_≡_, refl, ap, sym, _∙_, subst}
 use mathlib.Core.Logic.{inl, inr}
 use mathlib.Core.Bool.{Bool}
-use Prim.Native.Nat.{ℕ, suc}
+use Prim.Native.Nat.{_≤_, _+_, ℕ, suc}
 use native.Mathlib.Omega.{arith}
-use Rattle.flooding.specs.Copies.{Topology, Held, held, Holdings, Mention, copy, entry, unlisted, Live, Not-live}
+use Rattle.flooding.specs.Copies.{Topology, Held, none, held, Holdings, Mention, copy, entry, unlisted, Live, Not-live, Copy}
 use Rattle.flooding.specs.Stretches.{Left-alone, none-kept, held-kept}
-use Rattle.flooding.specs.CopyRuns.{Slot, View, Full-tick, Other-call, Call, other, issue, withdraw, Ticks, Run, opened}
-use Rattle.flooding.specs.Consistency.{Allowed, Not-newer, Consistent, Consistent-view, Runs-are-consistent, Live-issue, Issued, Newer-lsp, Sent-is-allowed}
+use Rattle.flooding.specs.CopyRuns.{Slot, View, Full-tick, Other-call, Call, other, issue, withdraw, Ticks, opened, called, ticked, Run}
+use Rattle.flooding.specs.Consistency.{Allowed, Not-newer, Consistent, Consistent-view, Runs-are-consistent, Live-issue, Issued, Newer-lsp, Sent-is-allowed, Copies-in-step, No-number-beyond, No-purge-of-last, Active-owner-holds}
 use Rattle.flooding.proofs.PutsToTicks.{turns-keep}
 use Rattle.flooding.proofs.CallsBetween.{left-alone-live}
 use Rattle.flooding.proofs.OneCopy
-use Rattle.flooding.proofs.Invariant.{sends-allowed-mention, consistent-in-step, consistent-put, consistent-age, consistent-issue, consistent-withdrawal}
+use Rattle.flooding.proofs.Invariant.{number-bound, sends-allowed-mention, consistent-in-step, consistent-put, consistent-age, consistent-issue, consistent-withdrawal}
 use Rattle.flooding.proofs.Tests.{clash}
 
 left-alone-allowed : {Q : Topology} {x : ℕ} (S : Slot) (clock : ℕ) {h h′ : Held} → Left-alone Q x h h′ → Allowed S clock h → Allowed S clock h′
@@ -70,8 +70,8 @@ runs-are-consistent v (opened a e f h) = record {
   numbered = λ z. clash z a;
   not-live = λ z. rw (h (v .topology .owner)) tt;
 }
-runs-are-consistent w (Run.call {v = v} r c) = consistent-call c (runs-are-consistent v r)
-runs-are-consistent w (Run.tick {v = v} r k) = consistent-tick k (runs-are-consistent v r)
+runs-are-consistent w (called {v = v} r c) = consistent-call c (runs-are-consistent v r)
+runs-are-consistent w (ticked {v = v} r k) = consistent-tick k (runs-are-consistent v r)
 
 pub issued : Issued
 issued v r x k e p = go (subst (λ (h : Held). Allowed (v .slot) (v .clock) h) e (runs-are-consistent v r .allowed x))
@@ -93,3 +93,40 @@ sent-is-allowed P clock S s Z r c g w h q = (
       let G = consistent-in-step P clock S Z a in
       not-newer-lsp (S .last) (G .left) w (s (P .owner)) (OneCopy.sends-no-newer (S .last) (G .left) q (G .conforming r)) (G .owner-holds),
 )
+
+-- what the slot says of a live copy of number n
+pub copy-of-issue : (S : Slot) (clock n : ℕ) (k : Copy) → 1 ≤ n → Allowed S clock (held k) → k .rank ≡ n + n →
+    (1 ≤ k .lifetime) × (k .lifetime + clock ≡ S .ends n) × (k .content ≡ S .content n)
+copy-of-issue S clock n k one (inl (m, q, i, j, z, y, u)) r = let e : m ≡ n = omega arith in (z, y ∙ ap (S .ends) e, u ∙ ap (S .content) e)
+copy-of-issue S clock n k one (inr (z, inl y)) r = absurd (omega arith)
+copy-of-issue S clock n k one (inr (z, inr (m, y, j, i))) r = absurd (omega arith)
+
+copy-allowed : (v : View) → Run v → (x : ℕ) (k : Copy) → v .holdings x ≡ held k → Allowed (v .slot) (v .clock) (held k)
+copy-allowed v r x k e = subst (λ (h : Held). Allowed (v .slot) (v .clock) h) e (runs-are-consistent v r .allowed x)
+
+pub copies-in-step : Copies-in-step
+copies-in-step v r x y k j e f l q =
+    let (m, a, b, c, d, g, h) = issued v r x k e l in
+    let z = copy-of-issue (v .slot) (v .clock) m j b (copy-allowed v r y j f) (sym q ∙ a) in
+    let i = z .1 in
+    (omega arith, z .2 ∙ sym h)
+
+pub no-number-beyond : No-number-beyond
+no-number-beyond v r x k e = number-bound (v .topology) (v .clock) (v .slot) (k .rank) (k .lifetime) (k .content) (copy-allowed v r x k e)
+
+pub no-purge-of-last : No-purge-of-last
+no-purge-of-last v r a x k e = subst (λ (h : Held). Not-newer (v .slot .last) h) e (runs-are-consistent v r .not-newer a x)
+
+pub active-owner-holds : Active-owner-holds
+active-owner-holds v r a = go (v .holdings (v .topology .owner)) refl (Z .owner-holds a)
+  where
+    Z : Consistent-view v
+    Z = runs-are-consistent v r
+
+    go : (h : Held) → v .holdings (v .topology .owner) ≡ h → Live (v .slot .last) h →
+        (k : Copy) × (h ≡ held k) × (k .rank ≡ v .slot .last + v .slot .last) × (1 ≤ k .lifetime) ×
+        (k .lifetime + v .clock ≡ v .slot .ends (v .slot .last)) × (k .content ≡ v .slot .content (v .slot .last))
+    go none e l = absurd l
+    go (held k) e l =
+        let z = copy-of-issue (v .slot) (v .clock) (v .slot .last) k (Z .numbered a) (copy-allowed v r (v .topology .owner) k e) l in
+        (k, refl, l, z .0, z .1, z .2)

@@ -8,7 +8,7 @@ use Rattle.flooding.specs.Copies.{Topology, Held, none, Holdings, Mention, unl
 use Rattle.flooding.specs.Rules.{Hears, unlisted-none, Kind, Sends, holds-none, Delivery, sender, hears, ignores, misses, detached, Put}
 use Rattle.flooding.specs.CopyTicks.{Ages, none-ages}
 use Rattle.flooding.specs.Stretches.{Left-alone, none-kept}
-use Rattle.flooding.specs.CopyRuns.{Slot, View, Call, other, issue, withdraw, Ticks, Run, opened}
+use Rattle.flooding.specs.CopyRuns.{Slot, View, Call, other, issue, withdraw, Ticks, opened, called, ticked}
 use Rattle.flooding.specs.Consistency.{Consistent-view, Unissued-unheld}
 use Rattle.flooding.proofs.OnePut.{sender-sends}
 use Rattle.flooding.proofs.PutsToTicks.{turns-keep}
@@ -62,5 +62,5 @@ call-none {Q} {v} {w} (withdraw e f i) Z l h =
 
 pub unissued-unheld : Unissued-unheld
 unissued-unheld v (opened a e f h) l = h
-unissued-unheld w (Run.call {v = v} r c) l = call-none c (runs-are-consistent v r) l (unissued-unheld v r)
-unissued-unheld w (Run.tick {v = v} r k) l = tick-none k l (unissued-unheld v r)
+unissued-unheld w (called {v = v} r c) l = call-none c (runs-are-consistent v r) l (unissued-unheld v r)
+unissued-unheld w (ticked {v = v} r k) l = tick-none k l (unissued-unheld v r)

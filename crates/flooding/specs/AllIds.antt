@@ -1,12 +1,12 @@
 -- All identifiers together: every router's database, frames put one after the other, and a tick of the whole network. A tick of the whole is a
 -- tick of each identifier.
 use mathlib.Core.Path.{_≡_}
-use mathlib.Core.Logic.{_⊎_}
+use mathlib.Core.Logic.{_≢_, _⊎_}
 use mathlib.Core.Bool.{Bool, true, false}
 use mathlib.Core.List.{List, [], _∷_}
 use Prim.Native.Nat.{ℕ, suc}
-use Rattle.flooding.specs.Copies.{Topology, Held, Holdings, Live, Not-live}
-use Rattle.flooding.specs.Rules.{Kind, lsp, psnp, csnp, Delivery}
+use Rattle.flooding.specs.Copies.{Topology, Held, Holdings, Mention, Live, Not-live}
+use Rattle.flooding.specs.Rules.{Kind, lsp, psnp, csnp, Sends, Delivery}
 use Rattle.flooding.specs.CopyTicks.{Due, Ages, Among}
 use Rattle.flooding.specs.CopyRuns.{Slot, Issue, Full-tick}
 use Rattle.flooding.specs.Frames.{Saying, silent, mentions, Frame, Never-mentions, Mentions-once}
@@ -19,26 +19,37 @@ Databases = ℕ → ℕ → Held
 abbrev pub of-id : ℕ → Databases → Holdings
 of-id i s x = s x i
 
--- what becomes of router x's copy as a frame that says this of the identifier is put
+-- what becomes of the copy of router x, which is not the sender, as a frame that says this of the identifier is put
 abbrev pub Delivered : Topology → Bool → ℕ → ℕ → Kind → Saying → ℕ → Held → Held → Type 0
 Delivered P missed r c g silent x h h′ = h′ ≡ h
 Delivered P missed r c g (mentions w) x h h′ = Delivery P missed r c g w x h h′
 
--- router r puts a frame on circuit c; P i is the topology with the owner of identifier i
-pub record Frame-put (P : ℕ → Topology) (missed : Bool) (r c : ℕ) (g : Kind) (f : Frame) (s s′ : Databases) : Type 0 where
-  pub sender-attached : (i : ℕ) → P i .attached r c ≡ true
-  pub delivery : (i x : ℕ) → Delivered (P i) missed r c g (f i) x (s x i) (s′ x i)
-
+-- Router r puts frames on circuit c, one after the other, and the other routers hear them or not; P i is the topology with the owner of identifier
+-- i. Nothing is said of the sender's own database here: when it clears flags, after each frame or after all, is free.
 pub data Frames-put (P : ℕ → Topology) (missed : Bool) (r c : ℕ) (g : Kind) : List Frame → Databases → Databases → Type 0 where
-  all-put : {s : Databases} → Frames-put P missed r c g [] s s
-  one-put : {f : Frame} {fs : List Frame} {s m e : Databases} → Frame-put P missed r c g f s m → Frames-put P missed r c g fs m e →
-      Frames-put P missed r c g (f ∷ fs) s e
+  all-put : {s e : Databases} → ((i x : ℕ) → x ≢ r → e x i ≡ s x i) → Frames-put P missed r c g [] s e
+  one-put : {f : Frame} {fs : List Frame} {s m e : Databases} → ((i x : ℕ) → x ≢ r → Delivered (P i) missed r c g (f i) x (s x i) (m x i)) →
+      Frames-put P missed r c g fs m e → Frames-put P missed r c g (f ∷ fs) s e
+
+-- identifier i is due, and one frame says of it what the sender's copy at the start of the phase says; at its end the sender holds what it then is to hold
+pub record Mentioned (P : Topology) (t r c : ℕ) (g : Kind) (i : ℕ) (frames : List Frame) (h h′ : Held) : Type 0 where
+  pub due : Due P t r c g h
+  pub mention : Mention
+  pub once : Mentions-once i mention frames
+  pub sends : Sends P r c g mention h h′
+
+-- or it is not due, no frame mentions it, and the sender keeps its copy
+pub record Passed-over (P : Topology) (t r c : ℕ) (g : Kind) (i : ℕ) (frames : List Frame) (h h′ : Held) : Type 0 where
+  pub not-due : Due P t r c g h → ⊥
+  pub never : Never-mentions i frames
+  pub kept : h′ ≡ h
 
 -- one phase of a turn: the frames mention each identifier that is due once, and no other
 pub record All-phase (P : ℕ → Topology) (missed : Bool) (t r c : ℕ) (g : Kind) (s s′ : Databases) : Type 0 where
+  pub sender-attached : (i : ℕ) → P i .attached r c ≡ true
   pub frames : List Frame
   pub puts : Frames-put P missed r c g frames s s′
-  pub each : (i : ℕ) → (Due (P i) t r c g (s r i) × Mentions-once i frames) ⊎ ((Due (P i) t r c g (s r i) → ⊥) × Never-mentions i frames)
+  pub each : (i : ℕ) → Mentioned (P i) t r c g i frames (s r i) (s′ r i) ⊎ Passed-over (P i) t r c g i frames (s r i) (s′ r i)
 
 -- router r's turn on circuit c
 pub data All-turn (P : ℕ → Topology) (missed : Bool) (t r c : ℕ) : Databases → Databases → Type 0 where

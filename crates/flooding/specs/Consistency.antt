@@ -1,13 +1,11 @@
 -- What holds of the identifier in every view that a run comes to: every live copy is an issue of the owner's slot, and ends with it.
 use mathlib.Core.Path.{_≡_}
 use mathlib.Core.Logic.{_⊎_}
-use mathlib.Core.Bool.{Bool, true, false}
-use mathlib.Core.List.{List}
+use mathlib.Core.Bool.{true, false}
 use Prim.Native.Nat.{ℕ, suc, _+_, _≤_}
 use Rattle.flooding.specs.Copies.{Content, Topology, Copy, Held, none, held, Holdings, Mention, copy, entry, unlisted, Newer, Live, Not-live}
 use Rattle.flooding.specs.Rules.{Kind, Sends}
-use Rattle.flooding.specs.CopyTicks.{Phase, not-due, sent, Turn, turn, Turns, done, then}
-use Rattle.flooding.specs.CopyRuns.{Slot, View, Call, Ticks, Run}
+use Rattle.flooding.specs.CopyRuns.{Slot, View, Run}
 
 -- rank, lifetime and content are those of an issue at this clock
 abbrev pub Live-issue : Slot → ℕ → ℕ → ℕ → Content → Type 0
@@ -50,6 +48,28 @@ abbrev pub Issued : Type 0
 Issued =
     (v : View) → Run v → (x : ℕ) (k : Copy) → v .holdings x ≡ held k → 1 ≤ k .lifetime → Live-issue (v .slot) (v .clock) (k .rank) (k .lifetime) (k .content)
 
+-- copies of one issue age in step: two live copies of one number have the same lifetime and content
+abbrev pub Copies-in-step : Type 0
+Copies-in-step =
+    (v : View) → Run v → (x y : ℕ) (k j : Copy) → v .holdings x ≡ held k → v .holdings y ≡ held j → 1 ≤ k .lifetime → k .rank ≡ j .rank →
+    (j .lifetime ≡ k .lifetime) × (j .content ≡ k .content)
+
+-- no copy has a number beyond the slot's last
+abbrev pub No-number-beyond : Type 0
+No-number-beyond = (v : View) → Run v → (x : ℕ) (k : Copy) → v .holdings x ≡ held k → k .rank ≤ suc (v .slot .last + v .slot .last)
+
+-- and while the slot is active there is no purge of its last number
+abbrev pub No-purge-of-last : Type 0
+No-purge-of-last =
+    (v : View) → Run v → v .topology .active ≡ true → (x : ℕ) (k : Copy) → v .holdings x ≡ held k → k .rank ≤ v .slot .last + v .slot .last
+
+-- the owner of an active slot holds its last number live, with the content and the end of that issue
+abbrev pub Active-owner-holds : Type 0
+Active-owner-holds =
+    (v : View) → Run v → v .topology .active ≡ true →
+    (k : Copy) × (v .holdings (v .topology .owner) ≡ held k) × (k .rank ≡ v .slot .last + v .slot .last) × (1 ≤ k .lifetime) ×
+    (k .lifetime + v .clock ≡ v .slot .ends (v .slot .last)) × (k .content ≡ v .slot .content (v .slot .last))
+
 -- An LSP that is sent carries an issue or a purge of one.
 abbrev pub Allowed-mention : Slot → ℕ → Mention → Type 0
 Allowed-mention S clock (copy R L C) = Allowed-copy S clock R L C
@@ -72,52 +92,3 @@ Sent-is-allowed =
 -- before its first issue no router holds anything of an identifier, not even a placeholder: so what is held was issued by some slot
 abbrev pub Unissued-unheld : Type 0
 Unissued-unheld = (v : View) → Run v → v .slot .last ≡ 0 → (x : ℕ) → v .holdings x ≡ none
-
--- what was held is still held, and is not older
-abbrev pub Not-older : Held → Held → Type 0
-Not-older none h = Unit {0}
-Not-older (held k) none = ⊥
-Not-older (held k) (held k′) = k .rank ≤ k′ .rank
-
-abbrev pub None-older : Holdings → Holdings → Type 0
-None-older s s′ = (x : ℕ) → Not-older (s x) (s′ x)
-
--- a live record that is held was issued by the slot, with this content
-abbrev pub Booked : Slot → Held → Type 0
-Booked S none = Unit {0}
-Booked S (held k) = 1 ≤ k .lifetime → (m : ℕ) × (k .rank ≡ m + m) × (1 ≤ m) × (m ≤ S .last) × (k .content ≡ S .content m)
-
--- so is every live record in each state on the way from s to s′, in which some routers have taken the step and others not yet
-abbrev pub Booked-between : Slot → Holdings → Holdings → Type 0
-Booked-between S s s′ = (m : Holdings) → ((x : ℕ) → (m x ≡ s x) ⊎ (m x ≡ s′ x)) → (x : ℕ) → Booked S (m x)
-
--- R holds from before to after each put of the turns
-abbrev pub Each-phase : {P : Topology} {missed : Bool} {t r c : ℕ} {g : Kind} {s s′ : Holdings} → (Holdings → Holdings → Type 0) →
-    Phase P missed t r c g s s′ → Type 0
-Each-phase R (not-due d) = Unit {0}
-Each-phase R (sent {s = s} {s′ = s′} d p) = R s s′
-
-abbrev pub Each-turn : {P : Topology} {missed : Bool} {t r c : ℕ} {s s′ : Holdings} → (Holdings → Holdings → Type 0) →
-    Turn P missed t r c s s′ → Type 0
-Each-turn R (turn a b d) = Each-phase R a × Each-phase R b × Each-phase R d
-
-abbrev pub Each-put : {P : Topology} {missed : Bool} {t : ℕ} {l : List (ℕ × ℕ)} {s s′ : Holdings} → (Holdings → Holdings → Type 0) →
-    Turns P missed t l s s′ → Type 0
-Each-put R done = Unit {0}
-Each-put R (then x y) = Each-turn R x × Each-put R y
-
--- Within a tick, by the book as it is after the tick: ageing deletes a copy or leaves one that is not older; the slot's reissue and each put leave
--- none older; and on the way every live record is booked.
-pub record Tick-keeps (v w : View) (missed : Bool) (k : Ticks missed v w) : Type 0 where
-  pub ageing : (x : ℕ) → (k .1 .aged x ≡ none) ⊎ Not-older (v .holdings x) (k .1 .aged x)
-  pub ageing-booked : Booked-between (w .slot) (v .holdings) (k .1 .aged)
-  pub reissue : None-older (k .1 .aged) (k .1 .reissued)
-  pub reissue-booked : Booked-between (w .slot) (k .1 .aged) (k .1 .reissued)
-  pub puts : Each-put (λ s s′. Consistent (w .topology) (w .clock) (w .slot) s′ × None-older s s′ × Booked-between (w .slot) s s′) (k .1 .turns)
-
--- the issue book, as one identifier sees it: over each call, and over each step of a tick
-abbrev pub Keeps-the-book : Type 0
-Keeps-the-book =
-    (v w : View) → Run v →
-    ((Q : Topology) → Call Q v w → None-older (v .holdings) (w .holdings) × Booked-between (w .slot) (v .holdings) (w .holdings)) ×
-    ((missed : Bool) (k : Ticks missed v w) → Tick-keeps v w missed k)

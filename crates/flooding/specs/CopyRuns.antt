@@ -83,13 +83,13 @@ Ticks missed v w =
 -- the views that a network can come to, from its opening on
 pub data Run : View → Type 0 where
   opened : {v : View} → v .topology .active ≡ false → v .clock ≡ 0 → v .slot .last ≡ 0 → ((x : ℕ) → v .holdings x ≡ none) → Run v
-  call : {Q : Topology} {v w : View} → Run v → Call Q v w → Run w
-  tick : {missed : Bool} {v w : View} → Run v → Ticks missed v w → Run w
+  called : {Q : Topology} {v w : View} → Run v → Call Q v w → Run w
+  ticked : {missed : Bool} {v w : View} → Run v → Ticks missed v w → Run w
 
 -- A stretch of a run from v to w, in which the circuits of Q stay in service: any calls, and so many ticks, of which so many missed a frame
 pub data Stretch (Q : Topology) (v : View) : View → ℕ → ℕ → Type 0 where
-  begin : Keeps-circuits Q (v .topology) → Stretch Q v v 0 0
-  call : {w z : View} {ticks missing : ℕ} → Stretch Q v w ticks missing → Call Q w z → Keeps-circuits Q (z .topology) →
+  begun : Keeps-circuits Q (v .topology) → Stretch Q v v 0 0
+  with-call : {w z : View} {ticks missing : ℕ} → Stretch Q v w ticks missing → Call Q w z → Keeps-circuits Q (z .topology) →
       Stretch Q v z ticks missing
-  tick : {w z : View} {ticks missing : ℕ} {missed : Bool} → Stretch Q v w ticks missing → Ticks missed w z → Keeps-circuits Q (z .topology) →
+  with-tick : {w z : View} {ticks missing : ℕ} {missed : Bool} → Stretch Q v w ticks missing → Ticks missed w z → Keeps-circuits Q (z .topology) →
       Stretch Q v z (suc ticks) (missing + bit missed)

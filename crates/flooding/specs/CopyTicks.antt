@@ -7,7 +7,7 @@ use Prim.Native.Nat.{ℕ, suc, _%_, _≤_}
 use Rattle.flooding.specs.Copies.{Topology, Copy, Held, none, held, Holdings, Live}
 use Rattle.flooding.specs.Rules.{Put, Kind, lsp, psnp, csnp}
 
--- SRM, SSN is set on circuit c
+-- the copy has SRM set on circuit c; SSN
 abbrev pub Srm : ℕ → Held → Type 0
 Srm c none = ⊥
 Srm c (held k) = k .srm c ≡ true

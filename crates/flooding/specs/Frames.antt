@@ -18,9 +18,10 @@ pub data Never-mentions (i : ℕ) : List Frame → Type 0 where
   no-frame : Never-mentions i []
   silent-frame : {f : Frame} {fs : List Frame} → f i ≡ silent → Never-mentions i fs → Never-mentions i (f ∷ fs)
 
-pub data Mentions-once (i : ℕ) : List Frame → Type 0 where
-  in-first : {f : Frame} {fs : List Frame} (w : Mention) → f i ≡ mentions w → Never-mentions i fs → Mentions-once i (f ∷ fs)
-  in-later : {f : Frame} {fs : List Frame} → f i ≡ silent → Mentions-once i fs → Mentions-once i (f ∷ fs)
+-- one frame of the list says this of the identifier, and the others are silent on it
+pub data Mentions-once (i : ℕ) (w : Mention) : List Frame → Type 0 where
+  in-first : {f : Frame} {fs : List Frame} → f i ≡ mentions w → Never-mentions i fs → Mentions-once i w (f ∷ fs)
+  in-later : {f : Frame} {fs : List Frame} → f i ≡ silent → Mentions-once i w fs → Mentions-once i w (f ∷ fs)
 
 -- Frames that take the identifiers of D from lo on in ranges, one after the other: each mentions those of D from its start to before the next
 -- frame's start, and no others. A set of CSNPs is such, with all identifiers for D: it mentions what it lists, and what it does not list.
@@ -34,7 +35,7 @@ pub data In-ranges (D : ℕ → Type 0) : ℕ → List Frame → Type 0 where
 abbrev pub Ranges-mention-once : Type 0
 Ranges-mention-once =
     (lo top : ℕ) (fs : List Frame) → In-ranges (λ j. j < top) lo fs →
-    (j : ℕ) → (lo ≤ j → j < top → Mentions-once j fs) × (top ≤ j → Never-mentions j fs)
+    (j : ℕ) → (lo ≤ j → j < top → (w : Mention) × Mentions-once j w fs) × (top ≤ j → Never-mentions j fs)
 
 pub data In (i : ℕ) : List ℕ → Type 0 where
   first-in : {l : List ℕ} → In i (i ∷ l)
@@ -59,8 +60,11 @@ pub data Cut-into : List ℕ → List Frame → Type 0 where
 abbrev pub Parts-mention-once : Type 0
 Parts-mention-once =
     (lo : ℕ) (l : List ℕ) (fs : List Frame) → Rising lo l → Cut-into l fs →
-    (i : ℕ) → (In i l → Mentions-once i fs) × ((In i l → ⊥) → Never-mentions i fs)
+    (i : ℕ) → (In i l → (w : Mention) × Mentions-once i w fs) × ((In i l → ⊥) → Never-mentions i fs)
 
--- a rising list drawn from another list is no longer than that: a database of identifiers that belong to slots is never longer than the slots
+-- A rising list drawn from another list is no longer than that, and shorter if it lacks one of it: a database of identifiers that belong to slots is
+-- never longer than there are slots, and has room for each that it lacks.
 abbrev pub Rising-no-longer : Type 0
-Rising-no-longer = (lo : ℕ) (l all : List ℕ) → Rising lo l → ((i : ℕ) → In i l → In i all) → length l ≤ length all
+Rising-no-longer =
+    (lo : ℕ) (l all : List ℕ) → Rising lo l → ((i : ℕ) → In i l → In i all) →
+    (length l ≤ length all) × ((j : ℕ) → In j all → (In j l → ⊥) → length l < length all)

@@ -7,11 +7,13 @@ use lib.Dec.{eqb, ltb, leb}
 use Rattle.flooding.specs.Rules.{Hears}
 use Rattle.flooding.specs.Copies.{Topology, Copy, Held, none, held, Mention, copy, entry, unlisted, Content}
 
-abbrev pub set : ℕ → Bool → (ℕ → Bool) → ℕ → Bool
-set c b f e = cond (eqb e c) b (f e)
+-- the flag on circuit c set to b, the others as they are
+abbrev pub flag-set : ℕ → Bool → (ℕ → Bool) → ℕ → Bool
+flag-set c b f e = cond (eqb e c) b (f e)
 
-abbrev pub isLive : ℕ → Bool
-isLive R = cond (ltb 1 R) (eqb (R % 2) 0) false
+-- the rank of a live record
+abbrev pub live-rank : ℕ → Bool
+live-rank R = cond (ltb 1 R) (eqb (R % 2) 0) false
 
 -- a purge and a placeholder have no content
 abbrev pub no-content : Content
@@ -28,18 +30,20 @@ stored P x c R L C srm ssn = record {
   ssn = λ e. cond (eqb e c) (cond (P .point-to-point c) true (ssn e)) (cond (P .attached x e) false (ssn e));
 }
 
+-- a copy with another wait, and with SRM a and SSN b on circuit c
 abbrev pub marked : Copy → ℕ → ℕ → Bool → Bool → Copy
-marked k w c a b = record { rank = k .rank; lifetime = k .lifetime; content = k .content; wait = w; srm = set c a (k .srm); ssn = set c b (k .ssn) }
+marked k w c a b = record { rank = k .rank; lifetime = k .lifetime; content = k .content; wait = w; srm = flag-set c a (k .srm); ssn = flag-set c b (k .ssn) }
 
-abbrev pub never : ℕ → Bool
-never e = false
+abbrev pub no-flags : ℕ → Bool
+no-flags e = false
 
+-- router x, which is not the owner, hears a mention on circuit c
 unfoldable pub heard : Topology → ℕ → ℕ → Mention → Held → Held
-heard P x c (copy R L C) none = cond (isLive R) (held (stored P x c R L C never never)) none
+heard P x c (copy R L C) none = cond (live-rank R) (held (stored P x c R L C no-flags no-flags)) none
 heard P x c (copy R L C) (held k) =
     cond (ltb (k .rank) R) (held (stored P x c R L C (k .srm) (k .ssn)))
     (cond (eqb R (k .rank)) (held (marked k (k .wait) c false (cond (P .point-to-point c) true (k .ssn c)))) (held (marked k (k .wait) c true false)))
-heard P x c (entry R) none = cond (isLive R) (held (record { rank = 0; lifetime = 0; content = no-content; wait = 60; srm = never; ssn = set c true never })) none
+heard P x c (entry R) none = cond (live-rank R) (held (record { rank = 0; lifetime = 0; content = no-content; wait = 60; srm = no-flags; ssn = flag-set c true no-flags })) none
 heard P x c (entry R) (held k) =
     cond (ltb (k .rank) R) (held (marked k (cond (eqb (k .wait) 0) 0 60) c (cond (P .point-to-point c) false (k .srm c)) true))
     (cond (eqb R (k .rank)) (held (marked k (k .wait) c (cond (P .point-to-point c) false (k .srm c)) (k .ssn c))) (held (marked k (k .wait) c true false)))

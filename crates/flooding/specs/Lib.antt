@@ -5,6 +5,7 @@ pub mod Stretches
 pub mod Hops
 pub mod CopyRuns
 pub mod Consistency
+pub mod IssueBook
 pub mod Convergence
 pub mod Ranks
 pub mod HeardCopies

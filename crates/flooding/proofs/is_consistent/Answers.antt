@@ -7,6 +7,10 @@ pub returns : need.returns
 returns c = record {
   always = RunsConsistent.runs-are-consistent;
   issued = RunsConsistent.issued;
+  ages = RunsConsistent.copies-in-step;
+  numbers = RunsConsistent.no-number-beyond;
+  purges = RunsConsistent.no-purge-of-last;
+  owner = RunsConsistent.active-owner-holds;
   sent = RunsConsistent.sent-is-allowed;
   unissued = Unissued.unissued-unheld;
   book = BookKept.keeps-the-book;
