@@ -27,6 +27,13 @@ fn is_of(item: &Record, id: LspId) -> bool
     same_id(item.id(), id)
 }
 
+// Whether two records have one identifier.
+fn are_alike(a: &Record, b: &Record) -> bool
+    ensures { λ r. ⌜ r ≡ eqb (key-of (now (a .entry))) (key-of (now (b .entry))) ⌝ }
+{
+    is_of(a, b.id())
+}
+
 // Which of two records stays in a place and which goes on: the one that comes first stays.
 fn settle(here: Record, carry: Record) -> (Record, Record)
     ensures stays { λ r. ⌜ r .0 ≡ cond (ltb (key-of carry) (key-of here)) carry here ⌝ }
@@ -67,7 +74,7 @@ pub(crate) fn slide(items: &mut [Record], item: Record) -> Option<Record>
     let mut carry = item;
     for i in 0..items.len() {
         let here = items[i];
-        if is_of(&here, carry.id()) {
+        if are_alike(&here, &carry) {
             items[i] = carry;
             return None;
         }
