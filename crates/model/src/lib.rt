@@ -1,0 +1,10 @@
+// The network as definitions in specs/: its state, each call, a tick, runs of calls, and what is promised of every run.
+// The functions' contracts are theorems about these definitions.
+ghost use Rattle.model.specs.Bench.{Benched};
+
+// The bench cases hold of the definitions.
+pub fn bench() -> u8
+    ensures { λ _. ⌜ Benched ⌝ }
+{
+    0
+}
