@@ -21,8 +21,15 @@ clock-risen s = record { plant = s .plant; clock = s .clock + 1; routers = s .ro
 abbrev pub lifetime-fallen : HeldRecord → HeldRecord
 lifetime-fallen x =
     record {
-      id = x .id; number = x .number; lifetime = x .lifetime - 1; check = x .check; flag-octet = x .flag-octet; body = x .body;
-      wait = x .wait; srm = x .srm; ssn = x .ssn
+      id = x .id;
+      number = x .number;
+      lifetime = x .lifetime - 1;
+      check = x .check;
+      flag-octet = x .flag-octet;
+      body = x .body;
+      wait = x .wait;
+      srm = x .srm;
+      ssn = x .ssn;
     }
 
 -- the wait falls by 1

@@ -92,11 +92,11 @@ module _ {P : Type 0} where
   abbrev pub refusal-of-originate : State P → ℕ → ℕ → List ℕ → Option CallFault
   refusal-of-originate s r k body =
       first-refusal (
-        map frame-cause (body-faults 0 body)
-        ++ fails (no-router s r || leb 4 k) Unknown
-        ∷ fails (no-room (id-of s r k) (database s r)) Full
-        ∷ fails (leb last-number (slot (router s r) k .last)) NoNumber
-        ∷ [])
+      map frame-cause (body-faults 0 body)
+      ++ fails (no-router s r || leb 4 k) Unknown
+      ∷ fails (no-room (id-of s r k) (database s r)) Full
+      ∷ fails (leb last-number (slot (router s r) k .last)) NoNumber
+      ∷ [])
 
   abbrev pub originated : ℕ → ℕ → List ℕ → State P → State P
   originated r k body s =
@@ -125,11 +125,11 @@ module _ {P : Type 0} where
   abbrev pub refusal-of-hear : State P → ℕ → ℕ → Frame → Option CallFault
   refusal-of-hear s r p f =
       first-refusal (
-        decoded-cause (decode f)
-        ∷ fails (no-router s r || leb (length (router s r .ports)) p) Unknown
-        ∷ fails (no-room-for (decode f) (database s r)) Full
-        ∷ fails (not (in-service s (port (router s r) p .circuit))) Service
-        ∷ [])
+      decoded-cause (decode f)
+      ∷ fails (no-router s r || leb (length (router s r .ports)) p) Unknown
+      ∷ fails (no-room-for (decode f) (database s r)) Full
+      ∷ fails (not (in-service s (port (router s r) p .circuit))) Service
+      ∷ [])
 
 module _ {P : Type 0} (air : P → Air) where
   abbrev pub no-circuit : State P → ℕ → Bool
@@ -139,12 +139,12 @@ module _ {P : Type 0} (air : P → Air) where
   abbrev pub refusal-of-attach : State P → ℕ → ℕ → ℕ → Option CallFault
   refusal-of-attach s r c e =
       first-refusal (
-        fails (no-router s r || (no-circuit s c || leb (ends-of (air (s .plant)) c) e)) Unknown
-        ∷ fails (leb 8 (length (router s r .ports))) TooMany
-        ∷ fails (isSome (attached c e 0 (s .routers))) Taken
-        ∷ fails (attached-to c (router s r)) Attached
-        ∷ fails (in-service s c) Service
-        ∷ [])
+      fails (no-router s r || (no-circuit s c || leb (ends-of (air (s .plant)) c) e)) Unknown
+      ∷ fails (leb 8 (length (router s r .ports))) TooMany
+      ∷ fails (isSome (attached c e 0 (s .routers))) Taken
+      ∷ fails (attached-to c (router s r)) Attached
+      ∷ fails (in-service s c) Service
+      ∷ [])
 
   abbrev pub attaching : ℕ → ℕ → ℕ → State P → State P
   attaching r c e s = with-routers (set (s .routers) r (with-port (record { circuit = c; end = e }) (router s r))) s

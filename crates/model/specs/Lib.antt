@@ -17,3 +17,7 @@ pub mod Run
 pub mod Steps
 pub mod Clean
 pub mod Bench
+pub mod StandIns
+pub mod Promise
+pub mod Reference
+pub mod WorkedCable

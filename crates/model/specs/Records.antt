@@ -68,8 +68,15 @@ is-placeholder x = eqb (x .number) 0
 abbrev pub purge : ℕ → ℕ → ℕ → HeldRecord
 purge i n flag =
     record {
-      id = i; number = n; lifetime = 0; check = no-check; flag-octet = flag; body = [];
-      wait = 60; srm = no-flags; ssn = no-flags
+      id = i;
+      number = n;
+      lifetime = 0;
+      check = no-check;
+      flag-octet = flag;
+      body = [];
+      wait = 60;
+      srm = no-flags;
+      ssn = no-flags;
     }
 
 -- the purge of a record's number, which keeps its flag octet
@@ -88,8 +95,15 @@ order n l x = recency n (leb 1 l) (x .number) (is-live x)
 abbrev pub marked : HeldRecord → Flags → Flags → ℕ → HeldRecord
 marked x srm ssn w =
     record {
-      id = x .id; number = x .number; lifetime = x .lifetime; check = x .check; flag-octet = x .flag-octet; body = x .body;
-      wait = w; srm = srm; ssn = ssn
+      id = x .id;
+      number = x .number;
+      lifetime = x .lifetime;
+      check = x .check;
+      flag-octet = x .flag-octet;
+      body = x .body;
+      wait = w;
+      srm = srm;
+      ssn = ssn;
     }
 
 abbrev pub with-srm : Flags → HeldRecord → HeldRecord

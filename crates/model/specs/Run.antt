@@ -30,7 +30,7 @@ pub data Called {P : Type 0} (air : P → Air) (put : Put-over P) (take : Take-o
   ups : {t : State P} (c : ℕ) (a : Result (Unit {0}) CallFault) → Ups air s t c a → Called air put take s h t (noting (up c) a h)
   downs : {t : State P} (c : ℕ) (a : Result (Unit {0}) CallFault) → Downs air s t c a → Called air put take s h t (noting (down c) a h)
   originates : {t : State P} (r k : ℕ) (body : List ℕ) (a : Result (Unit {0}) CallFault) →
-    Originates s t r k body a → Called air put take s h t (noting (originate r k body) a h)
+      Originates s t r k body a → Called air put take s h t (noting (originate r k body) a h)
   withdraws : {t : State P} (r k : ℕ) (a : Result (Unit {0}) CallFault) → Withdraws s t r k a → Called air put take s h t (noting (withdraw r k) a h)
   ticks : {t : State P} (a : Result (ℕ × ℕ) CallFault) → Ticks air put take s t a → Called air put take s h t (noting-tick a h)
 

@@ -22,8 +22,15 @@ entry-of x = record { lifetime = x .lifetime; id = x .id; number = x .number; ch
 abbrev pub record-of : LspPdu → HeldRecord
 record-of m =
     record {
-      id = m .id; number = m .number; lifetime = m .lifetime; check = m .check; flag-octet = m .flags; body = m .body;
-      wait = 0; srm = no-flags; ssn = no-flags
+      id = m .id;
+      number = m .number;
+      lifetime = m .lifetime;
+      check = m .check;
+      flag-octet = m .flags;
+      body = m .body;
+      wait = 0;
+      srm = no-flags;
+      ssn = no-flags;
     }
 
 -- an issue: its identifier, number, check octets and body

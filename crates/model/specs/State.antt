@@ -95,7 +95,7 @@ abbrev pub with-slot : ℕ → Slot → Node → Node
 with-slot k z y =
     record {
       router = record { system = y .router .system; ports = y .router .ports; slots = set (y .router .slots) k z };
-      records = y .records
+      records = y .records;
     }
 
 abbrev pub holding : Database → Node → Node
@@ -157,7 +157,7 @@ interface air s r p =
       port = p;
       broadcast = broadcast-circuit (air (s .plant)) (port (router s r) p .circuit);
       designated = designated s r (port (router s r) p .circuit);
-      serving = serving s r
+      serving = serving s r;
     }
 
 -- open: clock 0, no router, no circuit in service

@@ -91,18 +91,18 @@ module _ {P : Type 0} (air : P → Air) where
 pub data Takes-at {P : Type 0} (air : P → Air) (take : Take-over P) (c e k : ℕ) (s : State P) : State P → Type 0 where
   own : k ≡ e → Takes-at air take c e k s s
   other : {q : P} {f : Option Frame} {t : State P} →
-    k ≢ e → take (s .plant) q c k f → t ≡ delivered air c k f (with-plant q s) → Takes-at air take c e k s t
+      k ≢ e → take (s .plant) q c k f → t ≡ delivered air c k f (with-plant q s) → Takes-at air take c e k s t
 
 -- a frame is put from a port, then every other end takes, by number; n ends missed it. A put that the plant refuses does nothing, which no run reaches
 pub data Sends {P : Type 0} (air : P → Air) (put : Put-over P) (take : Take-over P) (a : Port) (f : Frame) (g : Progress P) : Progress P → Type 0 where
   sent : {q : P} {n : ℕ} {s t : State P} {h : Progress P} →
-    Counted air put (g .state .plant) q (a .circuit) (a .end) f n →
-    s ≡ with-plant q (g .state) →
-    Loop (Takes-at air take (a .circuit) (a .end)) (ends-of (air (g .state .plant)) (a .circuit)) s t →
-    h ≡ record { state = t; frames = g .frames + 1; missed = g .missed + n } →
-    Sends air put take a f g h
+      Counted air put (g .state .plant) q (a .circuit) (a .end) f n →
+      s ≡ with-plant q (g .state) →
+      Loop (Takes-at air take (a .circuit) (a .end)) (ends-of (air (g .state .plant)) (a .circuit)) s t →
+      h ≡ record { state = t; frames = g .frames + 1; missed = g .missed + n } →
+      Sends air put take a f g h
   refused : {x : CallFault} {h : Progress P} →
-    put-refusal (air (g .state .plant)) (a .circuit) (a .end) f ≡ Some x → h ≡ g → Sends air put take a f g h
+      put-refusal (air (g .state .plant)) (a .circuit) (a .end) f ≡ Some x → h ≡ g → Sends air put take a f g h
 
 module _ {P : Type 0} (air : P → Air) (put : Put-over P) (take : Take-over P) where
   -- frames one after another
@@ -116,12 +116,12 @@ pub record Port-turn {P : Type 0} (air : P → Air) (put : Put-over P) (take : T
   pub csnps : List CsnpPdu
   pub lsps-sent : Sends-all air put take (port (router (g .state) r) p) (lsp-frames air r p (g .state)) g after-lsps
   pub psnps-sent :
-    Sends-all air put take (port (router (g .state) r) p) (psnp-frames air r p (after-lsps .state))
-    (with-state (srm-cleared air r p (after-lsps .state)) after-lsps) after-psnps
+      Sends-all air put take (port (router (g .state) r) p) (psnp-frames air r p (after-lsps .state))
+      (with-state (srm-cleared air r p (after-lsps .state)) after-lsps) after-psnps
   pub csnps-due : Csnps-due air r p (after-psnps .state) csnps
   pub csnps-sent :
-    Sends-all air put take (port (router (g .state) r) p) (map csnp-frame csnps)
-    (with-state (ssn-cleared air r p (after-psnps .state)) after-psnps) h
+      Sends-all air put take (port (router (g .state) r) p) (map csnp-frame csnps)
+      (with-state (ssn-cleared air r p (after-psnps .state)) after-psnps) h
 
 -- a port out of service has no turn
 pub data At-port {P : Type 0} (air : P → Air) (put : Put-over P) (take : Take-over P) (r p : ℕ) (g : Progress P) : Progress P → Type 0 where
