@@ -2,12 +2,10 @@
 use Prim.Native.Nat.{ℕ, zero, suc}
 use mathlib.Core.Path.{_≡_, refl}
 use mathlib.Core.Logic.{_≢_}
-use mathlib.Core.List.{List, [], _∷_}
-use mathlib.Core.Bool.{Bool, true, false}
+use mathlib.Core.List.{[], _∷_}
 use lib.ListN.{replicate, getD}
 use lib.Dec.{lit<}
 use native.Mathlib.Omega.{arith}
-use Rattle.std.specs.declared.option.Option.{Option}
 use Rattle.std.specs.declared.option.Option.the-variants.{Some, None}
 use Rattle.std.specs.declared.result.Result.the-variants.{Ok}
 use Rattle.plant.specs.Air.{Air, Frame, waiting}
@@ -18,9 +16,9 @@ use Rattle.model.specs.Calls.{added, attaching, upped}
 use Rattle.model.specs.Loop.{Loop}
 use Rattle.model.specs.Turns.{Progress, Takes-at, Sends, Port-turn, At-port, lsp-frames, psnp-frames}
 use Rattle.model.specs.Tick.{Ticks}
-use Rattle.model.specs.Run.{Called, Stretch, Run}
+use Rattle.model.specs.Run.{Called, Stretch}
 use Rattle.model.specs.Reference.{as-it-is, put-into, Others-only, Reference-put, Reference-take}
-use Rattle.model.specs.WorkedCable.{copy, cable, cable-state, cable-history, Cable-worked}
+use Rattle.model.specs.WorkedCable.{copy, cable, cable-state, Cable-worked}
 
 abbrev at : ℕ → ℕ → State Air → Progress Air
 at f m s = record { state = s; frames = f; missed = m }

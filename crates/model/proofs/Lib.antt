@@ -1,1 +1,2 @@
 pub mod CableRun
+pub mod SegmentRun

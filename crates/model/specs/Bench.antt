@@ -8,7 +8,7 @@ use Rattle.model.specs.Flags.{only}
 use Rattle.model.specs.Records.{order, purge, with-ssn, slot-id}
 use Rattle.model.specs.Databases.{Database}
 use Rattle.model.specs.Sending.{issue, issue-check, psnp-frame, csnp-frame, source-of}
-use Rattle.model.specs.Sharing.{psnp-parts, Csnp-set}
+use Rattle.model.specs.Sharing.{psnp-parts}
 
 -- 16 records with SSN at port 0
 abbrev pub sixteen : Database

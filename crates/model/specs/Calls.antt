@@ -24,7 +24,7 @@ use Rattle.model.specs.Plants.{broadcast-circuit}
 use Rattle.model.specs.Flags.{Flags, join, except}
 use Rattle.model.specs.Records.{HeldRecord, marked, with-srm, is-placeholder, purge-of, last-number, slot-id}
 use Rattle.model.specs.Databases.{Database, find, holds}
-use Rattle.model.specs.State.{State, Node, Router, Slot, Port, new-router, slot, port, router, database, node, with-records, with-routers, with-service, with-node, flooding, deactivated, in-service, ports-on, attached-to, serving, attached, interface}
+use Rattle.model.specs.State.{State, Node, Router, Port, new-router, slot, port, router, database, node, with-records, with-routers, with-service, with-node, flooding, deactivated, in-service, ports-on, attached-to, serving, attached, interface}
 use Rattle.model.specs.Hearing.{issuing, heard, ignored}
 
 -- an accepted call has no refusal and its effect; a refused one has that refusal and changes nothing

@@ -6,8 +6,7 @@ use Rattle.std.specs.Options.{isSome}
 use Rattle.std.specs.declared.result.Result.the-variants.{Ok}
 use Rattle.plant.specs.Air.{Air, Frame}
 use Rattle.plant.specs.Calls.{Put-over, Take-over}
-use Rattle.model.specs.Plants.{Plant-laws}
-use Rattle.model.specs.State.{State, Router, Port, attached}
+use Rattle.model.specs.State.{State, Port, attached}
 use Rattle.model.specs.Turns.{Progress, Sends}
 use Rattle.model.specs.Tick.{Ticks}
 use Rattle.model.specs.Steps.{Each-put}

@@ -21,3 +21,4 @@ pub mod StandIns
 pub mod Promise
 pub mod Reference
 pub mod WorkedCable
+pub mod WorkedSegment

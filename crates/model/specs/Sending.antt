@@ -4,7 +4,7 @@ use Prim.Native.Nat.{ℕ, _*_}
 use mathlib.Core.List.{List, map}
 use Rattle.octets.specs.declared.checks.CheckOctets.{CheckOctets}
 use Rattle.octets.specs.Checks.{check-octets}
-use Rattle.frame.specs.Messages.{LspPdu, SnpEntry, CsnpPdu, PsnpPdu, Pdu, lsp, csnp, psnp, covered-part, encode}
+use Rattle.frame.specs.Messages.{LspPdu, SnpEntry, CsnpPdu, lsp, csnp, psnp, covered-part, encode}
 use Rattle.plant.specs.Air.{Frame}
 use Rattle.record.specs.Forms.{no-check}
 use Rattle.model.specs.Flags.{no-flags}

@@ -1,7 +1,6 @@
 -- The steps within a tick, one by one: the clock's rise, each record aged, each slot reissued, each frame put, each end that takes with its router hearing, and flags cleared.
 -- Step holds of each of them, of the state before it and the state after it; Of-put and Of-take hold of each put and each end that takes.
 use Prim.Native.Nat.{ℕ}
-use mathlib.Core.Path.{_≡_}
 use lib.ListN.{length}
 use Rattle.std.specs.declared.result.Result.the-variants.{Ok}
 use Rattle.plant.specs.Air.{Air, Frame}

@@ -1,16 +1,15 @@
 -- A run worked by hand: two routers and a cable. Router 0 originates, the fifth tick carries the LSP over, and the sixth its acknowledgement.
 use Prim.Native.Nat.{ℕ}
-use mathlib.Core.Path.{_≡_}
-use mathlib.Core.List.{List, [], _∷_}
-use mathlib.Core.Bool.{Bool, true, false}
+use mathlib.Core.List.{[], _∷_}
+use mathlib.Core.Bool.{true, false}
 use lib.ListN.{replicate}
 use Rattle.std.specs.declared.option.Option.the-variants.{None}
 use Rattle.plant.specs.declared.Kind.the-variants.{PointToPoint}
 use Rattle.plant.specs.Air.{Air}
-use Rattle.model.specs.Flags.{Flags, only, no-flags}
+use Rattle.model.specs.Flags.{Flags, no-flags}
 use Rattle.model.specs.Records.{HeldRecord}
 use Rattle.model.specs.Databases.{Database}
-use Rattle.model.specs.State.{State, Slot, no-slot}
+use Rattle.model.specs.State.{State, no-slot}
 use Rattle.model.specs.Book.{History, add, attach, up, originate, tick}
 use Rattle.model.specs.Run.{Run}
 use Rattle.model.specs.Reference.{as-it-is, Reference-put, Reference-take}

@@ -2,6 +2,7 @@
 // The functions' contracts are theorems about these definitions.
 ghost use Rattle.model.specs.Bench.{Benched};
 ghost use Rattle.model.specs.WorkedCable.{Cable-worked};
+ghost use Rattle.model.specs.WorkedSegment.{Segment-worked};
 
 // The bench cases hold of the definitions.
 pub fn bench() -> u8
@@ -13,6 +14,13 @@ pub fn bench() -> u8
 // Two routers and a cable: an issue comes to the other router, and its acknowledgement back.
 pub fn worked_cable() -> u8
     ensures { λ _. ⌜ Cable-worked ⌝ }
+{
+    0
+}
+
+// Three routers on a segment: the designated router missed an issue, and its CSNP brings it.
+pub fn worked_segment() -> u8
+    ensures { λ _. ⌜ Segment-worked ⌝ }
 {
     0
 }
