@@ -1,2 +1,3 @@
 pub mod CableRun
 pub mod SegmentRun
+pub mod CleanTicks

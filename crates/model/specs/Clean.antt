@@ -22,3 +22,8 @@ module _ {P : Type 0} (air : P → Air) (put : Put-over P) (take : Take-over P) 
 
   abbrev pub Clean : (s t : State P) (f m : ℕ) → Ticks air put take s t (Ok (f, m)) → Type 0
   Clean s t f m k = Each-put air put take Clean-put s t f m k
+
+-- a tick that answers a missed sum of 0 is clean
+abbrev pub Zero-missed-is-clean : {P : Type 0} → (P → Air) → Put-over P → Take-over P → Type 0
+Zero-missed-is-clean {P} air put take =
+    (s t : State P) (f : ℕ) (k : Ticks air put take s t (Ok (f, 0))) → Clean air put take s t f 0 k

@@ -1,8 +1,10 @@
 // The network as definitions in specs/: its state, each call, a tick, runs of calls, and what is promised of every run.
 // The functions' contracts are theorems about these definitions.
 ghost use Rattle.model.specs.Bench.{Benched};
+ghost use Rattle.model.specs.Clean.{Zero-missed-is-clean};
 ghost use Rattle.model.specs.WorkedCable.{Cable-worked};
 ghost use Rattle.model.specs.WorkedSegment.{Segment-worked};
+use plant::Plant;
 
 // The bench cases hold of the definitions.
 pub fn bench() -> u8
@@ -21,6 +23,13 @@ pub fn worked_cable() -> u8
 // Three routers on a segment: the designated router missed an issue, and its CSNP brings it.
 pub fn worked_segment() -> u8
     ensures { λ _. ⌜ Segment-worked ⌝ }
+{
+    0
+}
+
+// Over every plant, a tick that answers a missed sum of 0 is clean: no attached end missed a frame.
+pub fn clean_ticks<P: Plant>(_plant: &P) -> u8
+    ensures { λ _. ⌜ Zero-missed-is-clean air «put_over» «take_over» ⌝ }
 {
     0
 }
