@@ -1,21 +1,19 @@
 -- A missed sum only grows through the turns of a tick, so where it ends at 0 no put had one that missed.
-use Prim.Native.Nat.{ℕ, zero, suc, _+_, _≤_, _<_}
+use Prim.Native.Nat.{ℕ, zero, suc, _+_, _<_}
 use mathlib.Core.Path.{_≡_, refl, sym, subst, ap, _∙_}
 use mathlib.Core.Bool.{Bool, true, false, cond}
 use mathlib.Core.List.{List, [], _∷_}
 use native.Mathlib.Decide.{decLt}
 use native.Mathlib.Omega.{arith}
-use Rattle.std.specs.declared.result.Result.the-variants.{Ok}
 use Rattle.plant.specs.Air.{Air, Frame, ends-of}
-use Rattle.plant.specs.Calls.{Put, Put-over, Take-over, count}
+use Rattle.plant.specs.Calls.{Put-over, Take-over, count}
 use Rattle.model.specs.Plants.{Plant-laws}
 use Rattle.model.specs.Lists.{Passes}
 use Rattle.model.specs.State.{State, Port}
 use Rattle.model.specs.Loop.{Loop, Along}
-use Rattle.model.specs.Turns.{Progress, Sends, Port-turn, At-port, Router-turn, Sends-all}
-use Rattle.model.specs.Tick.{Ticks}
+use Rattle.model.specs.Turns.{Progress, Sends, At-port, Router-turn, Sends-all}
 use Rattle.model.specs.Steps.{In-port-turn, In-router-turn}
-use Rattle.model.specs.Clean.{Clean-put, Clean, None-missed, Zero-missed-is-clean}
+use Rattle.model.specs.Clean.{Clean-put, Zero-missed-is-clean}
 
 -- a set of which none of the first n is counted has none of them
 none-counted : (missed : ℕ → Bool) (n : ℕ) → count missed n ≡ 0 → (k : ℕ) → k < n → missed k ≡ false

@@ -1,3 +1,4 @@
 pub mod CableRun
 pub mod SegmentRun
 pub mod CleanTicks
+pub mod Quiet

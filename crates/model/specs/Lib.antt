@@ -22,3 +22,4 @@ pub mod Promise
 pub mod Reference
 pub mod WorkedCable
 pub mod WorkedSegment
+pub mod Quietness

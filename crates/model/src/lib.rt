@@ -2,6 +2,7 @@
 // The functions' contracts are theorems about these definitions.
 ghost use Rattle.model.specs.Bench.{Benched};
 ghost use Rattle.model.specs.Clean.{Zero-missed-is-clean};
+ghost use Rattle.model.specs.Quietness.{Nothing-waits};
 ghost use Rattle.model.specs.WorkedCable.{Cable-worked};
 ghost use Rattle.model.specs.WorkedSegment.{Segment-worked};
 use plant::Plant;
@@ -30,6 +31,13 @@ pub fn worked_segment() -> u8
 // Over every plant, a tick that answers a missed sum of 0 is clean: no attached end missed a frame.
 pub fn clean_ticks<P: Plant>(_plant: &P) -> u8
     ensures { λ _. ⌜ Zero-missed-is-clean air «put_over» «take_over» ⌝ }
+{
+    0
+}
+
+// Over every plant, in every run, no frame waits between calls.
+pub fn nothing_waits<P: Plant>(_plant: &P) -> u8
+    ensures { λ _. ⌜ Nothing-waits air «put_over» «take_over» ⌝ }
 {
     0
 }
