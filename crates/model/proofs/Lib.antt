@@ -2,3 +2,5 @@ pub mod CableRun
 pub mod SegmentRun
 pub mod CleanTicks
 pub mod Quiet
+pub mod DatabaseFacts
+pub mod Cuts

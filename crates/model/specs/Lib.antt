@@ -23,3 +23,5 @@ pub mod Reference
 pub mod WorkedCable
 pub mod WorkedSegment
 pub mod Quietness
+pub mod DatabaseLaws
+pub mod SharingLaws

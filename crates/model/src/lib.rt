@@ -2,7 +2,9 @@
 // The functions' contracts are theorems about these definitions.
 ghost use Rattle.model.specs.Bench.{Benched};
 ghost use Rattle.model.specs.Clean.{Zero-missed-is-clean};
+ghost use Rattle.model.specs.DatabaseLaws.{Database-laws};
 ghost use Rattle.model.specs.Quietness.{Nothing-waits};
+ghost use Rattle.model.specs.SharingLaws.{Psnps-of-15};
 ghost use Rattle.model.specs.WorkedCable.{Cable-worked};
 ghost use Rattle.model.specs.WorkedSegment.{Segment-worked};
 use plant::Plant;
@@ -38,6 +40,20 @@ pub fn clean_ticks<P: Plant>(_plant: &P) -> u8
 // Over every plant, in every run, no frame waits between calls.
 pub fn nothing_waits<P: Plant>(_plant: &P) -> u8
     ensures { λ _. ⌜ Nothing-waits air «put_over» «take_over» ⌝ }
+{
+    0
+}
+
+// What placing, deleting and changing a record do to a database.
+pub fn database_laws() -> u8
+    ensures { λ _. ⌜ Database-laws ⌝ }
+{
+    0
+}
+
+// The PSNPs of a turn report the records with SSN, 15 to a frame, the last 1 to 15.
+pub fn psnp_parts() -> u8
+    ensures { λ _. ⌜ Psnps-of-15 ⌝ }
 {
     0
 }
