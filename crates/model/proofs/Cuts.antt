@@ -1,5 +1,5 @@
 -- Lists cut into parts.
-use Prim.Native.Nat.{ℕ, zero, suc, _-_, _≤_, _<_, min}
+use Prim.Native.Nat.{ℕ, zero, suc, _-_, _≤_, _<_}
 use mathlib.Core.Path.{_≡_, refl, sym, ap, subst, _∙_}
 use mathlib.Core.Logic.{⊎-elim}
 use mathlib.Core.List.{List, [], _∷_, _++_}
@@ -7,8 +7,7 @@ use native.Mathlib.Omega.{arith}
 use lib.ListN.{length, take, drop, length-take, length-drop}
 use Rattle.std.proofs.shelf.Tests.{cases-lt}
 use Rattle.model.specs.Lists.{cut-by}
-use Rattle.model.specs.Databases.{Database}
-use Rattle.model.specs.Sharing.{reported-on, psnp-parts}
+use Rattle.model.specs.Sharing.{reported-on}
 use Rattle.model.specs.SharingLaws.{Cut, Psnps-of-15}
 
 take-drop : {A : Type 0} (n : ℕ) (xs : List A) → take n xs ++ drop n xs ≡ xs

@@ -2,16 +2,14 @@
 use Prim.Native.Nat.{ℕ, _+_, _≤_, _<_}
 use mathlib.Core.Path.{_≡_, refl, sym, ap, subst, _∙_}
 use mathlib.Core.Logic.{_≢_, ⊎-elim}
-use mathlib.Core.Bool.{Bool, true, false, cond}
-use mathlib.Core.List.{List, [], _∷_}
+use mathlib.Core.List.{[], _∷_}
 use native.Mathlib.Omega.{arith}
-use lib.Dec.{eqb, ltb}
 use Rattle.std.proofs.shelf.Tests.{cases-eq, cases-lt, eq-eqb, ne-eqb, lt-ltb, le-ltb}
 use Rattle.std.specs.declared.option.Option.{Option}
 use Rattle.std.specs.declared.option.Option.the-variants.{Some, None}
 use Rattle.model.specs.Records.{HeldRecord}
 use Rattle.model.specs.Databases.{Database, find, placed, without, amended}
-use Rattle.model.specs.DatabaseLaws.{Rising-from, Rising, changed, Keeps-id, Database-laws}
+use Rattle.model.specs.DatabaseLaws.{Rising-from, changed, Keeps-id, Database-laws}
 
 -- finding at the front, and behind it
 find-front : (i : ℕ) (x : HeldRecord) (d : Database) → x .id ≡ i → find i (x ∷ d) ≡ Some x

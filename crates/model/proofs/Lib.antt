@@ -4,3 +4,4 @@ pub mod CleanTicks
 pub mod Quiet
 pub mod DatabaseFacts
 pub mod Cuts
+pub mod Rising

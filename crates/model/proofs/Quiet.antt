@@ -33,7 +33,7 @@ use Rattle.model.specs.Run.{Called, Stretch}
 use Rattle.model.specs.Quietness.{Nothing-waits}
 
 -- a fact that each step of a loop keeps
-kept-along : {S : Type 0} {step : ℕ → S → S → Type 0} (K : S → Type 0) →
+pub kept-along : {S : Type 0} {step : ℕ → S → S → Type 0} (K : S → Type 0) →
     ((k : ℕ) (u t : S) → step k u t → K u → K t) → {n : ℕ} {s t : S} → Loop step n s t → K s → K t
 kept-along K each Loop.none q = q
 kept-along K each (Loop.more {k} {u = u} {t = t} h v) q = each k u t v (kept-along K each h q)

@@ -25,3 +25,4 @@ pub mod WorkedSegment
 pub mod Quietness
 pub mod DatabaseLaws
 pub mod SharingLaws
+pub mod RisingDatabases

@@ -4,6 +4,7 @@ ghost use Rattle.model.specs.Bench.{Benched};
 ghost use Rattle.model.specs.Clean.{Zero-missed-is-clean};
 ghost use Rattle.model.specs.DatabaseLaws.{Database-laws};
 ghost use Rattle.model.specs.Quietness.{Nothing-waits};
+ghost use Rattle.model.specs.RisingDatabases.{Databases-rise};
 ghost use Rattle.model.specs.SharingLaws.{Psnps-of-15};
 ghost use Rattle.model.specs.WorkedCable.{Cable-worked};
 ghost use Rattle.model.specs.WorkedSegment.{Segment-worked};
@@ -54,6 +55,13 @@ pub fn database_laws() -> u8
 // The PSNPs of a turn report the records with SSN, 15 to a frame, the last 1 to 15.
 pub fn psnp_parts() -> u8
     ensures { λ _. ⌜ Psnps-of-15 ⌝ }
+{
+    0
+}
+
+// Over every plant, in every run, the identifiers of every database rise strictly.
+pub fn databases_rise<P: Plant>(_plant: &P) -> u8
+    ensures { λ _. ⌜ Databases-rise air «put_over» «take_over» ⌝ }
 {
     0
 }
