@@ -75,8 +75,8 @@ Converges {P} air put take =
     Settled air put take s t B →
     (r k : ℕ) (z x : HeldRecord) →
     Owns s r k (x .id) →
-    Holds s r z → Live z →
-    Holds t r x → Live x →
+    Holds s r z → 1 ≤ z .lifetime →
+    Holds t r x → 1 ≤ x .lifetime →
     z .id ≡ x .id → z .number ≡ x .number →
     (q : ℕ) → q < length (t .routers) → (y : HeldRecord) × (find (x .id) (database t q) ≡ Some y) × Alike x y
 

@@ -1,5 +1,5 @@
 -- No frame waits between calls: in every run, after each call, nothing waits at any end of the plant.
--- So a tick never begins with a frame waiting, and no put of a tick is refused because one waits.
+-- So a tick never begins with a frame waiting.
 use Rattle.plant.specs.Air.{Air, Quiet}
 use Rattle.plant.specs.Calls.{Put-over, Take-over}
 use Rattle.model.specs.State.{State}

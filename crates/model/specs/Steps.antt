@@ -1,5 +1,5 @@
 -- The steps within a tick, one by one: the clock's rise, each record aged, each slot reissued, each frame put, each end that takes with its router hearing, and flags cleared.
--- Step holds of each of them, of the state before it and the state after it; Of-put and Of-take hold of each put and each end that takes.
+-- Each-step says that a relation holds of every one of them, of the state before it and the state after it; Each-put says something of every put.
 use Prim.Native.Nat.{ℕ}
 use lib.ListN.{length}
 use Rattle.std.specs.declared.result.Result.the-variants.{Ok}
