@@ -3,4 +3,4 @@ use Rattle.frame.proofs.Numerals.{field_four}
 use Rattle.frame.proofs.cells.four_at.Goals as goal
 
 pub returns : goal.returns
-returns c = c.from-be-bytes.ensures ∙ sym (field_four c.args.f.now c.args.at (omega arith))
+returns c = c.from_be_bytes.ensures ∙ sym (field_four c.args.f.now c.args.at (omega arith))

@@ -5,10 +5,10 @@ use Rattle.frame.proofs.Answering.{header-fixed}
 use Rattle.frame.specs.Reading.{fixed, wrong_octet}
 use Rattle.frame.proofs.header.read_header.Goals as goal
 
-pub returns-in-err-check-fixed : goal.returns-in-err-check-fixed
-returns-in-err-check-fixed c =
-    let p = err_from_is_err_and c.from-residual.result c.from-residual.ensures.1 in
+pub returns-in_err-check_fixed : goal.returns-in_err-check_fixed
+returns-in_err-check_fixed c =
+    let p = err_from_is_err_and c.from_residual.result c.from_residual.ensures.1 in
     let f = c.args.f.now in
     rw (p.1, p.2)
     (sym (header-fixed f (le-ltb _ 8 c.if-f-lt8.false) _
-    (unless_err (wrong_octet fixed f) tt _ (sym c.in-err-check-fixed.ensures))))
+    (unless_err (wrong_octet fixed f) tt _ (sym c.in_err-check_fixed.ensures))))

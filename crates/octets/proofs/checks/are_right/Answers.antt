@@ -11,8 +11,8 @@ returns-then-part-p-ne0 c =
     let part = c.args.part.now in
     let p = c.args.p in
     let h = c.requires in
-    let x = ap (λ (s : Sums). s.c0) c.sums-of-all.ensures in
-    let y = ap (λ (s : Sums). s.c1) c.sums-of-all.ensures in
+    let x = ap (λ (s : Sums). s.c0) c.sums_of-all.ensures in
+    let y = ap (λ (s : Sums). s.c1) c.sums_of-all.ensures in
     let v : not (eqb (get_or part p 0) 0) ≡ right p part = grind (arith, nat_tests) in
     record { value = v; own = λ e. right_computed p part (octets_from part (search rules)) (sym v ∙ e); always = right_computed }
 
@@ -21,6 +21,6 @@ returns-else-part-p-ne0 c =
     let part = c.args.part.now in
     let p = c.args.p in
     let h = c.requires in
-    let x = ap (λ (s : Sums). s.c0) c.sums-of-all.ensures in
-    let y = ap (λ (s : Sums). s.c1) c.sums-of-all.ensures in
+    let x = ap (λ (s : Sums). s.c0) c.sums_of-all.ensures in
+    let y = ap (λ (s : Sums). s.c1) c.sums_of-all.ensures in
     record { value = grind (arith, nat_tests); own = λ e. right_computed p part (octets_from part (search rules)) (grind (arith, nat_tests)); always = right_computed }

@@ -14,22 +14,22 @@ returns-then-body-gt100 c =
     let v = checked_long at c.from.result body c.from.ensures c.if-body-gt100.true in
     record { value = v; whole = checked_whole at body _ v; fits = checked_fits at body _ v }
 
-pub returns-in-err-value : goal.returns-in-err-value
-returns-in-err-value c =
+pub returns-in_err-value : goal.returns-in_err-value
+returns-in_err-value c =
     let body = c.args.body.now in
     let at = c.args.at in
     let rest = c.loop-rest.rest.now in
     let place = c.loop-rest.place in
-    let p = err_from_is_err_and c.from-residual.result c.from-residual.ensures.1 in
-    let h = c.in-err-value.ensures in
-    let some : 0 < length rest = omega (arith, eqb-false (length rest) 0 (sym c.is-empty.ensures ∙ c.loop-rest-test.true)) in
+    let p = err_from_is_err_and c.from_residual.result c.from_residual.ensures.1 in
+    let h = c.in_err-value.ensures in
+    let some : 0 < length rest = omega (arith, eqb-false (length rest) 0 (sym c.is_empty.ensures ∙ c.loop-rest-test.true)) in
     let b = checked_short at body (Some (Field place)) c.if-body-gt100.false (sym c.loop-rest.invariant.1 ∙ broken_here place rest some h.0) in
-    let v : c.from-residual.result ≡ unless (body_fault at body) tt = p.1 ∙ ap Err (p.2 ∙ h.1) ∙ b in
+    let v : c.from_residual.result ≡ unless (body_fault at body) tt = p.1 ∙ ap Err (p.2 ∙ h.1) ∙ b in
     record { value = v; whole = checked_whole at body _ v; fits = checked_fits at body _ v }
 
 pub loop-rest-preserved : goal.loop-rest-preserved
 loop-rest-preserved c =
-    let h = c.in-ok-value.ensures in
+    let h = c.in_ok-value.ensures in
     (omega arith, broken_past c.loop-rest.place c.loop-rest.rest.now h ∙ c.loop-rest.invariant.1)
 
 pub returns : goal.returns
@@ -37,6 +37,6 @@ returns c =
     let body = c.args.body.now in
     let at = c.args.at in
     let rest = c.loop-rest.rest.now in
-    let e = eqb-true (length rest) 0 (sym c.is-empty.ensures ∙ c.loop-rest-test.false) in
+    let e = eqb-true (length rest) 0 (sym c.is_empty.ensures ∙ c.loop-rest-test.false) in
     let v = checked_short at body None c.if-body-gt100.false (sym c.loop-rest.invariant.1 ∙ broken_end c.loop-rest.place rest e) in
     record { value = v; whole = checked_whole at body _ v; fits = checked_fits at body _ v }

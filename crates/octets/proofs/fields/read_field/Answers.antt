@@ -10,7 +10,7 @@ returns c =
     let p = c.args.part.now in
     let n = get_or p 1 0 in
     let e = c.from-n.ensures in
-    let h = c.in-ok-check-field.ensures in
+    let h = c.in_ok-check_field.ensures in
     let s : stands p ≡ true = search rules in
     let l : 2 + n ≤ length p = grind (arith, nat_tests) in
     record {

@@ -2,19 +2,19 @@ use Rattle.std.proofs.Common.{sym, arith}
 use Rattle.plant.specs.Air.{line, ends_of}
 use Rattle.plant.proofs.Blocked.{busy_at, idle_more}
 use Rattle.plant.proofs.asking.is_blocked.Goals as goal
-use Rattle.plant.proofs.asking.is_blocked.Goals.{else-k-end-via-then-k-end+else-is-waiting, else-k-end-via-else-k-end}
+use Rattle.plant.proofs.asking.is_blocked.Goals.{else-k-end-via-then-k-end+else-is_waiting, else-k-end-via-else-k-end}
 
-pub returns-then-is-waiting : goal.returns-then-is-waiting
-returns-then-is-waiting g c =
+pub returns-then-is_waiting : goal.returns-then-is_waiting
+returns-then-is_waiting g c =
     let a = g.P.Plant.air c.args.plant.now in
     let n = c.args.circuit.0 in
-    sym (busy_at (line a n).ends c.args.end.0 (ends_of a n) c.loop-k.k (omega arith) c.if-k-end.true (sym c.if-is-waiting.ensures))
+    sym (busy_at (line a n).ends c.args.end.0 (ends_of a n) c.loop-k.k (omega arith) c.if-k-end.true (sym c.if-is_waiting.ensures))
 
 pub loop-k-preserved : goal.loop-k-preserved
 loop-k-preserved g c =
     let a = g.P.Plant.air c.args.plant.now in
     idle_more (line a c.args.circuit.0).ends c.args.end.0 c.loop-k.k c.loop-k.invariant
     (λ d. elim c.else-k-end.branch [
-      | else-k-end-via-then-k-end+else-is-waiting w ↦ sym w.if-is-waiting.ensures
+      | else-k-end-via-then-k-end+else-is_waiting w ↦ sym w.if-is_waiting.ensures
       | else-k-end-via-else-k-end w ↦ absurd (d w.if-k-end.false)
     ])

@@ -7,7 +7,7 @@ use Rattle.plant.proofs.asking.is_quiet.Goals as goal
 pub loop-c-preserved : goal.loop-c-preserved
 loop-c-preserved g c =
     below_more (λ (d : ℕ). Drained (g.P.Plant.air c.args.plant.now) d) c.loop-c.c c.loop-c.invariant
-    (c.is-drained.ensures.0 c.if-not-is-drained.false)
+    (c.is_drained.ensures.0 c.if-not-is_drained.false)
 
 pub returns : goal.returns
 returns g c =

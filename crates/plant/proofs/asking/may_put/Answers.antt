@@ -13,5 +13,5 @@ returns g c =
       allowed = search rules;
       missed = others (ends_of a n) e;
       all = refl;
-      counted = ap (λ m. m - 1) c.count-ends-ends.ensures ∙ sym (count-others (ends_of a n) e (omega arith));
+      counted = ap (λ m. m - 1) c.count_ends-ends.ensures ∙ sym (count-others (ends_of a n) e (omega arith));
     }

@@ -6,4 +6,4 @@ use Rattle.record.proofs.bodies.put_front.Goals as goal
 pub returns : goal.returns
 returns c =
     front_taken
-    (wrote_part c.args.buf.now 0 _ c.args.octets.now c.copy-from-slice.new.self c.copy-from-slice.ensures.after (omega arith) (omega arith))
+    (wrote_part c.args.buf.now 0 _ c.args.octets.now c.copy_from_slice.new.self c.copy_from_slice.ensures.after (omega arith) (omega arith))

@@ -4,10 +4,10 @@ use Rattle.record.specs.Fields.{whole_fields}
 use Rattle.record.proofs.FormLaws.{whole_test, fault_short}
 use Rattle.record.proofs.bodies.whole_body.Goals as goal
 
-pub put-front-requires : goal.put-front-requires
-put-front-requires c = let h = fault_short 0 c.args.octets.now c.requires in omega arith
+pub put_front-requires : goal.put_front-requires
+put_front-requires c = let h = fault_short 0 c.args.octets.now c.requires in omega arith
 
 pub invariant-of-result : goal.invariant-of-result
 invariant-of-result c =
     let h = fault_short 0 c.args.octets.now c.requires in
-    (omega arith, (h, (ap whole_fields c.put-front.ensures ∙ whole_test c.args.octets.now (body_whole 0 c.args.octets.now c.requires), tt)))
+    (omega arith, (h, (ap whole_fields c.put_front.ensures ∙ whole_test c.args.octets.now (body_whole 0 c.args.octets.now c.requires), tt)))

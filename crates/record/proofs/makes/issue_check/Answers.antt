@@ -10,10 +10,10 @@ pub returns : goal.returns
 returns c =
     let id = c.args.id in
     let n = c.args.number in
-    let r = c.computed-check.result in
-    let e = c.as-slice.ensures.is in
+    let r = c.computed_check.result in
+    let e = c.as_slice.ensures.is in
     record {
-      is = c.computed-check.ensures.is ∙ ap (λ (b : List ℕ). check_octets 13 (covered_part (lsp_by 1200 id n no_check 1 b))) e;
+      is = c.computed_check.ensures.is ∙ ap (λ (b : List ℕ). check_octets 13 (covered_part (lsp_by 1200 id n no_check 1 b))) e;
       live =
           live_formed (pdu id n 1200 r 1 c.args.body.now) 0
           (record {
@@ -21,6 +21,6 @@ returns c =
             lifetime = omega arith;
             short = omega arith;
             wait = refl;
-            sums = subst (λ (b : List ℕ). right 13 (covered_part (lsp_by 1200 id n r 1 b)) ≡ true) e c.computed-check.ensures.right;
+            sums = subst (λ (b : List ℕ). right 13 (covered_part (lsp_by 1200 id n r 1 b)) ≡ true) e c.computed_check.ensures.right;
           });
     }

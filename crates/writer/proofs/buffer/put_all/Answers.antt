@@ -4,5 +4,5 @@ use Rattle.writer.proofs.buffer.put_all.Goals as goal
 
 pub returns : goal.returns
 returns c =
-    wrote_part c.args.buf.now c.args.at _ c.args.more.now c.copy-from-slice.new.self c.copy-from-slice.ensures.after
+    wrote_part c.args.buf.now c.args.at _ c.args.more.now c.copy_from_slice.new.self c.copy_from_slice.ensures.after
     (omega arith) (omega arith)

@@ -4,10 +4,10 @@ use Rattle.writer.proofs.closes.put_csnp_head.Goals as goal
 
 pub returns : goal.returns
 returns c =
-    let w1 = wrote_as c.header-octets.ensures c.put-all-at.ensures in
-    let w2 = wrote_as c.source-octets.ensures.octets c.put-all-at-2.ensures in
-    let w3 = wrote_as c.id-octets.ensures.octets c.put-all-at-3.ensures in
-    let w4 = wrote_as c.id-octets-2.ensures.octets c.put-all.ensures in
+    let w1 = wrote_as c.header_octets.ensures c.put_all-at.ensures in
+    let w2 = wrote_as c.source_octets.ensures.octets c.put_all-at-2.ensures in
+    let w3 = wrote_as c.id_octets.ensures.octets c.put_all-at-3.ensures in
+    let w4 = wrote_as c.id_octets-2.ensures.octets c.put_all.ensures in
     wrote_then (omega arith) w1
     (wrote_then (omega (arith, w1.place, w1.len)) w2
     (wrote_then (omega (arith, w1.place, w1.len, w2.place, w2.len)) w3 w4))

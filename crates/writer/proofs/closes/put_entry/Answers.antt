@@ -4,9 +4,9 @@ use Rattle.writer.proofs.closes.put_entry.Goals as goal
 
 pub returns : goal.returns
 returns c =
-    let w1 = wrote_as c.to-be-bytes.ensures c.put-all-at.ensures in
-    let w2 = wrote_as c.id-octets.ensures.octets c.put-all-at-2.ensures in
-    let w3 = wrote_as c.number-octets.ensures.octets c.put-all-at-3.ensures in
+    let w1 = wrote_as c.to_be_bytes.ensures c.put_all-at.ensures in
+    let w2 = wrote_as c.id_octets.ensures.octets c.put_all-at-2.ensures in
+    let w3 = wrote_as c.number_octets.ensures.octets c.put_all-at-3.ensures in
     wrote_then (omega arith) w1
     (wrote_then (omega (arith, w1.place, w1.len)) w2
-    (wrote_then (omega (arith, w1.place, w1.len, w2.place, w2.len)) w3 c.put-all.ensures))
+    (wrote_then (omega (arith, w1.place, w1.len, w2.place, w2.len)) w3 c.put_all.ensures))

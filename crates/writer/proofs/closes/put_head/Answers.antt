@@ -7,4 +7,4 @@ use Rattle.writer.proofs.closes.put_head.Goals as goal
 
 pub returns-in-Csnp : goal.returns-in-Csnp
 returns-in-Csnp c =
-    wrote_as (ap (λ (s : Scope). head_octets s (value c.args.source) c.args.behind) (sym c.in-Csnp.is)) c.put-csnp-head.ensures
+    wrote_as (ap (λ (s : Scope). head_octets s (value c.args.source) c.args.behind) (sym c.in-Csnp.is)) c.put_csnp_head.ensures

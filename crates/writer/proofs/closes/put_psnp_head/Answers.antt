@@ -4,5 +4,5 @@ use Rattle.writer.proofs.closes.put_psnp_head.Goals as goal
 
 pub returns : goal.returns
 returns c =
-    let w1 = wrote_as c.header-octets.ensures c.put-all-at.ensures in
-    wrote_then (omega arith) w1 (wrote_as c.source-octets.ensures.octets c.put-all.ensures)
+    let w1 = wrote_as c.header_octets.ensures c.put_all-at.ensures in
+    wrote_then (omega arith) w1 (wrote_as c.source_octets.ensures.octets c.put_all.ensures)

@@ -11,15 +11,15 @@ returns c =
     let m = lsp_said c.args.m.now in
     let e : c.octets.result ≡ check_octets 13 (covered_part m) =
     c.octets.ensures
-    ∙ check_pieces m c.id-octets.result c.number-octets.result c.over-all.result _ c.id-octets.ensures.octets
-    c.number-octets.ensures.octets
+    ∙ check_pieces m c.id_octets.result c.number_octets.result c.over-all.result _ c.id_octets.ensures.octets
+    c.number_octets.ensures.octets
     (c.over-all.ensures
     ∙ ap (λ (s : Sums). sums_then s m.body)
     (c.over-2.ensures
     ∙ ap (λ (s : Sums). sums_then s (0 ∷ 0 ∷ m.flags ∷ []))
     (c.over-head.ensures
-    ∙ ap (λ (s : Sums). sums_then s c.number-octets.result)
-    (c.over.ensures ∙ ap (λ (s : Sums). sums_then s c.id-octets.result) c.new.ensures))))
-    c.behind-first.ensures
+    ∙ ap (λ (s : Sums). sums_then s c.number_octets.result)
+    (c.over.ensures ∙ ap (λ (s : Sums). sums_then s c.id_octets.result) c.new.ensures))))
+    c.behind_first.ensures
     in
     record { is = e; right = check_right m c.octets.result e }

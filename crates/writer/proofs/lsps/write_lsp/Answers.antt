@@ -13,20 +13,20 @@ returns-then-buf-lt275 c = too_small _ _ (omega arith)
 pub returns-then-m-gt248 : goal.returns-then-m-gt248
 returns-then-m-gt248 c = too_long _ _ (omega arith) (omega arith)
 
-pub returns-in-err-message : goal.returns-in-err-message
-returns-in-err-message c =
-    let p = err_from_is_err_and c.from-residual.result c.from-residual.ensures.1 in
+pub returns-in_err-message : goal.returns-in_err-message
+returns-in_err-message c =
+    let p = err_from_is_err_and c.from_residual.result c.from_residual.ensures.1 in
     let m = lsp (lsp_said c.args.m.now) in
-    let q : c.new.result.frame.now ≡ encode m = c.new.ensures ∙ wrote_taken c.fill-lsp-n.ensures.wrote in
-    rw (p.1, p.2) (as_reading m _ _ (omega arith) (ap decode (sym q) ∙ c.in-err-message.ensures.reads.is))
+    let q : c.new.result.frame.now ≡ encode m = c.new.ensures ∙ wrote_taken c.fill_lsp-n.ensures.wrote in
+    rw (p.1, p.2) (as_reading m _ _ (omega arith) (ap decode (sym q) ∙ c.in_err-message.ensures.reads.is))
 
 pub returns : goal.returns
 returns c =
     let l = lsp_said c.args.m.now in
-    let q : c.new.result.frame.now ≡ encode (lsp l) = c.new.ensures ∙ wrote_taken c.fill-lsp-n.ensures.wrote in
-    let z = c.fill-lsp-n.ensures.sized in
+    let q : c.new.result.frame.now ≡ encode (lsp l) = c.new.ensures ∙ wrote_taken c.fill_lsp-n.ensures.wrote in
+    let z = c.fill_lsp-n.ensures.sized in
     let b : length l.body ≤ 248 = omega arith in
-    let w = wrote_as (wrote_taken c.fill-lsp-n.ensures.wrote) c.put-all.ensures in
+    let w = wrote_as (wrote_taken c.fill_lsp-n.ensures.wrote) c.put_all.ensures in
     was_written (lsp l) _ _ _ (omega arith)
-    (lsp_again l _ z.lifetime z.id z.number b (ap decode (sym q) ∙ c.in-ok-message.ensures.reads.is))
+    (lsp_again l _ z.lifetime z.id z.number b (ap decode (sym q) ∙ c.in_ok-message.ensures.reads.is))
     (omega (arith, w.place)) (wrote_front w)

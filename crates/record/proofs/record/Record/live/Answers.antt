@@ -22,7 +22,7 @@ invariant-of-result c =
         (
           heard-formed m.id c.fitting.result m.number m.lifetime m.check m.flags c.in-Ok.body m.body.now
               c.fitting.ensures.is c.in-Ok.ensures.1 (omega arith) (omega arith) (omega arith)
-              (sym c.is-checked.ensures ∙ c.if-not-is-checked.false),
+              (sym c.is_checked.ensures ∙ c.if-not-is_checked.false),
           (quiet_none m.number, tt),
         ),
       ),

@@ -8,7 +8,7 @@ invariant-of-self c = (
   search rules,
   (
     simp (length-append, length-drop)
-        (omega (arith, c.copy-from-slice.ensures.len, c.args.self.now.whole)),
+        (omega (arith, c.copy_from_slice.ensures.len, c.args.self.now.whole)),
     tt,
   ),
 )
@@ -16,4 +16,4 @@ invariant-of-self c = (
 pub returns : goal.returns
 returns c =
     cond-false _ _ _ (ne_eqb (length c.args.frame.now) 0 (omega arith))
-    ∙ ap Some (take_at c.copy-from-slice.new.self _ _ (ap length c.copy-from-slice.ensures.after) ∙ c.copy-from-slice.ensures.after)
+    ∙ ap Some (take_at c.copy_from_slice.new.self _ _ (ap length c.copy_from_slice.ensures.after) ∙ c.copy_from_slice.ensures.after)

@@ -4,4 +4,4 @@ use Rattle.wires.proofs.Segments.{spread_told}
 use Rattle.wires.proofs.segment.Segment.deliver.Goals as goal
 
 pub returns : goal.returns
-returns c = spread_told c.args.self.now c.args.end c.args.frame.now (map held c.fill-others.new.boxes) c.fill-others.ensures.after
+returns c = spread_told c.args.self.now c.args.end c.args.frame.now (map held c.fill_others.new.boxes) c.fill_others.ensures.after

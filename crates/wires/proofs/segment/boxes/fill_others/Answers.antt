@@ -13,7 +13,7 @@ loop-j-preserved c =
       elim c.if-j-e.branch [
         | then-j-e w ↦
             ap (map held) w.boxes-is
-            ∙ (w.fill-in.ensures
+            ∙ (w.fill_in.ensures
             ∙ (ap (λ x. set x k (Some f)) c.loop-j.invariant.1 ∙ sym (spread_more xs k c.args.e f w.if-j-e.true)))
         | else-j-e w ↦ ap (map held) w.boxes-is ∙ (c.loop-j.invariant.1 ∙ sym (spread_own xs k c.args.e f w.if-j-e.false))
       ],

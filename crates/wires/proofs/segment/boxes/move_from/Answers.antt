@@ -10,8 +10,8 @@ returns c =
     let k = c.args.k in
     let e = sym (get_or-map held bs k c.index-boxes-k.result None (omega arith)) in
     record {
-      len = length-set bs k c.move-to.new.self ∙ c.told-boxes;
-      answer = c.move-to.ensures.answer ∙ ap length_of e;
-      buffer = c.move-to.ensures.buffer ∙ ap (λ o. moved o c.args.buffer.now) e;
-      after = map-set held bs k c.move-to.new.self ∙ ap (set (map held bs) k) c.move-to.ensures.gone;
+      len = length-set bs k c.move_to.new.self ∙ c.told-boxes;
+      answer = c.move_to.ensures.answer ∙ ap length_of e;
+      buffer = c.move_to.ensures.buffer ∙ ap (λ o. moved o c.args.buffer.now) e;
+      after = map-set held bs k c.move_to.new.self ∙ ap (set (map held bs) k) c.move_to.ensures.gone;
     }

@@ -21,9 +21,9 @@ returns c =
     let xs : List Entry = take s.count s.entries in
     let n : length xs ≤ 15 = let e : length xs ≡ s.count = length-take-le s.count s.entries (omega arith) in omega arith in
     let m = summary_said s in
-    let h : c.tail-len.result ≡ tail_size (length xs) = c.tail-len.ensures ∙ ap (λ (es : List Entry). tail_size (length es)) c.listed-listed.ensures in
-    let w1 = wrote_as (ap (head_octets s.scope (value s.source)) h) c.put-head-at.ensures in
-    let w2 = wrote_as (ap (λ (es : List Entry). tail_octets (map entry_said es)) c.listed-listed.ensures) c.put-tail.ensures in
+    let h : c.tail_len.result ≡ tail_size (length xs) = c.tail_len.ensures ∙ ap (λ (es : List Entry). tail_size (length es)) c.listed-listed.ensures in
+    let w1 = wrote_as (ap (head_octets s.scope (value s.source)) h) c.put_head-at.ensures in
+    let w2 = wrote_as (ap (λ (es : List Entry). tail_octets (map entry_said es)) c.listed-listed.ensures) c.put_tail.ensures in
     let w = wrote_as (summary_octets s.scope (value s.source) xs) (wrote_then (omega (arith, head_short s.scope (value s.source) (tail_size (length xs)))) w1 w2) in
     was_written m _ _ _ (omega arith) (reads_back m (summary_fits s.scope (value s.source) xs s.sized n s.right s.scoped))
     (omega (arith, w.place)) (wrote_front w)

@@ -17,7 +17,7 @@ invariant-of-result c =
         search rules,
         (
           omega (arith, r),
-          (took_right s.entries s.count e (omega arith) h _ c.with-entry.ensures (omega (arith, r)) s.right u.0 u.1, tt),
+          (took_right s.entries s.count e (omega arith) h _ c.with_entry.ensures (omega (arith, r)) s.right u.0 u.1, tt),
         ),
       ),
     )
@@ -28,4 +28,4 @@ returns c =
     let e = c.args.e in
     let h : entry_fault (take s.count s.entries) e ≡ None = unless_ok _ _ _ (sym c.in-default.ensures.is) in
     let r = took_room s.entries s.count e (omega arith) h in
-    (h, refl, ap (take (s.count + 1)) c.with-entry.ensures ∙ take_more_set s.entries s.count e (omega (arith, r)))
+    (h, refl, ap (take (s.count + 1)) c.with_entry.ensures ∙ take_more_set s.entries s.count e (omega (arith, r)))
