@@ -7,7 +7,11 @@ use Rattle.record.proofs.bodies.whole_body.Goals as goal
 pub put_front-requires : goal.put_front-requires
 put_front-requires c = let h = fault_short 0 c.args.octets.now c.requires in omega arith
 
-pub invariant-of-result : goal.invariant-of-result
-invariant-of-result c =
+pub invariant_of-result : goal.invariant_of-result
+invariant_of-result c =
     let h = fault_short 0 c.args.octets.now c.requires in
-    (omega arith, (h, (ap whole_fields c.put_front.ensures ∙ whole_test c.args.octets.now (body_whole 0 c.args.octets.now c.requires), tt)))
+    record {
+      room = omega arith;
+      few = h;
+      fields = ap whole_fields c.put_front.ensures ∙ whole_test c.args.octets.now (body_whole 0 c.args.octets.now c.requires);
+    }

@@ -4,16 +4,14 @@ use Rattle.record.specs.Bodies.{pdu}
 use Rattle.record.proofs.FormLaws.{bare-formed, quiet_none}
 use Rattle.record.proofs.makes.emptied.Goals as goal
 
-pub invariant-of-result : goal.invariant-of-result
-invariant-of-result c = (
-  c.fitting.ensures.under,
-  (
-    omega arith,
-    (
-      bare-formed (pdu c.fitting.result c.args.number 0 no_check c.args.flags c.empty.result) 60
+pub invariant_of-result : goal.invariant_of-result
+invariant_of-result c =
+    record {
+      sized = c.fitting.ensures.under;
+      numbered = omega arith;
+      form =
+          bare-formed (pdu c.fitting.result c.args.number 0 no_check c.args.flags c.empty.result) 60
           (record { lifetime = refl; x = refl; y = refl; body = ap length c.empty.ensures; wait = (omega arith, omega arith) })
-          c.requires,
-      (quiet_none c.args.number, tt),
-    ),
-  ),
-)
+          c.requires;
+      unsent = quiet_none c.args.number;
+    }

@@ -16,28 +16,28 @@ bounds-self-n c =
     (grown_row c.args.self.now c.slide-last.new.items _ (sub-zero c.args.self.now.count) c.slide-last.auto.items c.args.item
     c.in-Some.last c.requires c.in-Some.ensures).more
 
-pub invariant-of-self : goal.invariant-of-self
-invariant-of-self c =
+pub invariant_of-self : goal.invariant_of-self
+invariant_of-self c =
     let h =
     grown_row c.args.self.now c.slide-last.new.items _ (sub-zero c.args.self.now.count) c.slide-last.auto.items c.args.item
     c.in-Some.last c.requires c.in-Some.ensures
     in
-    (omega (arith, h.more), (h.room, (h.rising, tt)))
+    record { few = omega (arith, h.more); room = h.room; rising = h.rising }
 
-pub invariant-of-self-in-default : goal.invariant-of-self-in-default
-invariant-of-self-in-default c =
+pub invariant_of-self-in_default : goal.invariant_of-self-in_default
+invariant_of-self-in_default c =
     let h =
     same_row c.args.self.now c.slide-last.new.items _ (sub-zero c.args.self.now.count) c.slide-last.auto.items c.args.item
-    c.in-default.ensures
+    c.in_default.ensures
     in
-    (c.args.self.now.few, (h.room, (h.rising, tt)))
+    record { few = c.args.self.now.few; room = h.room; rising = h.rising }
 
 pub returns-in-Some : goal.returns-in-Some
 returns-in-Some c =
     (grown_row c.args.self.now c.slide-last.new.items _ (sub-zero c.args.self.now.count) c.slide-last.auto.items c.args.item
     c.in-Some.last c.requires c.in-Some.ensures).front
 
-pub returns-in-default : goal.returns-in-default
-returns-in-default c =
+pub returns-in_default : goal.returns-in_default
+returns-in_default c =
     (same_row c.args.self.now c.slide-last.new.items _ (sub-zero c.args.self.now.count) c.slide-last.auto.items c.args.item
-    c.in-default.ensures).front
+    c.in_default.ensures).front

@@ -13,14 +13,14 @@ returns-then-at-n c =
       after = row_stays row k c.seek-at.result _ (sub-zero row.count) c.seek-at.ensures c.if-at-n.true;
     }
 
-pub invariant-of-self : goal.invariant-of-self
-invariant-of-self c =
+pub invariant_of-self : goal.invariant_of-self
+invariant_of-self c =
     let row = c.args.self.now in
     let h =
     shrunk_row row c.close.new.items _ (sub-zero row.count) c.close.auto.items (value c.args.id) c.seek-at.result c.seek-at.ensures
     c.if-at-n.false c.close.ensures
     in
-    (omega (arith, row.few), (h.room, (h.rising, tt)))
+    record { few = omega (arith, row.few); room = h.room; rising = h.rising }
 
 pub returns : goal.returns
 returns c =
