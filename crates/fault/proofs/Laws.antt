@@ -1,8 +1,8 @@
 -- Laws of the refusal that is answered.
-use Rattle.std.proofs.Common.{◌≡◌, ℕ, ◌<◌, ◌≤◌, Bool, true, false, cond, ◌&&◌, ◌||◌, eqb, ltb, leb, ◌⊎◌, List, [], ◌∷◌, ◌++◌, Some, None, Ok, Err, Option, sym, refl, ap, ◌∙◌, inl, inr, arith}
+use Rattle.std.proofs.Common.{◌≡◌, ℕ, Bool, true, false, cond, List, [], ◌∷◌, ◌++◌, Some, None, Ok, Err, Option, refl, inl, inr, arith}
 use Rattle.std.proofs.lemmas.Bool.Decides.{nat_tests}
 use Rattle.std.specs.Option.{option_or}
-use Rattle.fault.specs.Order.{ranked, fails, unless, before, sooner, soonest, Among, Answers}
+use Rattle.fault.specs.Order.{ranked, fails, unless, before, sooner, soonest, Answers}
 
 pub ranked_trans : (a b c d e f : ℕ) → ranked a b c d ≡ true → ranked c d e f ≡ true → ranked a b e f ≡ true
 ranked_trans a b c d e f p q = grind (arith, nat_tests)

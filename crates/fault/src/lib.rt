@@ -1,4 +1,6 @@
 // The refusals of frames and calls. Each case has a number and a place, which specs/Refusals.antt gives.
+#![tactic(auto)]
+
 ghost use Rattle.std.specs.Prelude.{◌≡◌};
 ghost use Rattle.fault.specs.declared.CallFault.TheVariants.{Frame};
 ghost use Rattle.fault.specs.Refusals.{frame_number, frame_place, call_number, call_place};

@@ -1,4 +1,6 @@
 // Flooding. The theorems about it stand in the contracts of these functions, and their statements in specs/: read specs/Convergence first.
+#![tactic(auto)]
+
 ghost use Rattle.flooding.specs.AllIds.{Projects};
 ghost use Rattle.flooding.specs.Consistency.{
   ActiveOwnerHolds,

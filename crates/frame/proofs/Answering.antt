@@ -1,8 +1,8 @@
 -- The faults of a frame rise in rank and place as they are listed, so the first of them is answered.
-use Rattle.std.proofs.Common.{◌≡◌, ℕ, suc, ◌+◌, ◌-◌, ◌*◌, ◌<◌, ◌≤◌, Bool, true, false, cond, not, ◌&&◌, ◌||◌, eqb, ltb, leb, List, [], ◌∷◌, ◌++◌, length, get_or, drop, is_some, Some, None, Ok, Err, Option, Result, sym, refl, ap, ◌∙◌, subst, arith, le-ltb, lt-ltb, eq-eqb, ne_eqb, le-leb}
+use Rattle.std.proofs.Common.{◌≡◌, ℕ, suc, ◌+◌, ◌-◌, ◌*◌, ◌<◌, ◌≤◌, Bool, true, false, cond, ◌||◌, eqb, ltb, List, [], ◌∷◌, ◌++◌, length, get_or, drop, Some, None, Ok, Err, Option, Result, sym, refl, ap, ◌∙◌, subst, arith, le-ltb, lt-ltb, eq-eqb, ne_eqb, le-leb}
 use Rattle.std.specs.Option.{option_or}
 use Rattle.fault.specs.declared.FrameFault.{FrameFault}
-use Rattle.fault.specs.declared.FrameFault.TheVariants.{Short, Fixed, Kind as UnknownKind, Header, Length, Field, Body, Tail, Lifetime, Number, Range, Order, Check}
+use Rattle.fault.specs.declared.FrameFault.TheVariants.{Short, Fixed, Kind as UnknownKind, Header, Length, Body, Tail, Lifetime, Number, Range, Order, Check}
 use Rattle.fault.specs.Order.{frame_rank, before, first_fault, fails, unless}
 use Rattle.fault.specs.Refusals.{frame_place}
 use Rattle.fault.proofs.Laws.{unless_ok, unless_err, Rising, Between, foremost, foremost-append, rising_first, between_fails, ranked_self}
@@ -10,8 +10,8 @@ use Rattle.octets.specs.Octets.{field}
 use Rattle.octets.specs.Fields.{broken_field, body_faults, body_fault}
 use Rattle.frame.specs.declared.kind.Kind.{Kind}
 use Rattle.frame.specs.declared.kind.Kind.TheVariants.{Lsp, Csnp, Psnp}
-use Rattle.frame.specs.Messages.{SnpEntry, Pdu}
-use Rattle.frame.specs.Reading.{fixed, wrong_octet, kind_of, size_of, length_off, length_wrong, header_faults, headed, header_answer, check_wrong, lsp_faults, tail_right, entry_at, entries_at, entries_of, entries_faults, last_id, csnp_faults, psnp_faults, kind_faults, faults, refusal, said, answered, decode}
+use Rattle.frame.specs.Messages.{SnpEntry}
+use Rattle.frame.specs.Reading.{fixed, wrong_octet, kind_of, header_faults, headed, header_answer, check_wrong, lsp_faults, tail_right, entry_at, entries_at, entries_of, entries_faults, last_id, csnp_faults, psnp_faults, kind_faults, faults, refusal}
 use Rattle.octets.proofs.FieldLaws.{broken_place, body_first}
 
 abbrev Rise : FrameFault → List (Option FrameFault) → Type 0

@@ -1,11 +1,10 @@
 -- A frame without a header fault begins as the header of its kind, and the other way round.
-use Rattle.std.proofs.Common.{◌≡◌, ℕ, zero, suc, ◌+◌, ◌-◌, ◌^◌, ◌<◌, ◌≤◌, Bool, true, false, cond, not, ◌&&◌, ◌||◌, eqb, ltb, leb, List, [], ◌∷◌, ◌++◌, length, get_or, take, drop, is_some, Some, None, Ok, Err, Option, Result, sym, refl, ap, ◌∙◌, subst, arith, length-drop, take-append-drop, length-take-le, drop-cons, drop-drop, ltb-false, le-ltb, eq-eqb, ne_eqb, eqb-true}
+use Rattle.std.proofs.Common.{◌≡◌, ℕ, suc, ◌+◌, ◌-◌, ◌^◌, ◌<◌, ◌≤◌, Bool, true, false, cond, not, ◌||◌, eqb, ltb, List, [], ◌∷◌, ◌++◌, length, get_or, take, drop, is_some, Some, None, Ok, Option, sym, refl, ap, ◌∙◌, arith, length-drop, take-append-drop, length-take-le, drop-cons, drop-drop, ltb-false, le-ltb, eq-eqb, eqb-true}
 use borrow.Author.Tests.{not-false}
-use Rattle.std.specs.List.{AllByRecursion as All}
 use Rattle.std.proofs.ByRecursion.{All-take, All-drop}
 use Rattle.fault.specs.declared.FrameFault.{FrameFault}
 use Rattle.fault.specs.declared.FrameFault.TheVariants.{Short, Fixed, Kind as UnknownKind, Header, Length}
-use Rattle.fault.specs.Order.{frame_rank, fails}
+use Rattle.fault.specs.Order.{frame_rank}
 use Rattle.fault.specs.Refusals.{frame_place}
 use Rattle.fault.proofs.Laws.{NoneOf, fails_not, not_fails}
 use Rattle.octets.specs.Octets.{Octets, octets, part, field}

@@ -1,11 +1,11 @@
 -- An LSP that is written reads back, one that is read is written again, and fits.
-use Rattle.std.proofs.Common.{◌≡◌, ℕ, zero, suc, ◌+◌, ◌-◌, ◌^◌, ◌<◌, ◌≤◌, Bool, true, false, cond, not, ◌&&◌, ◌||◌, eqb, ltb, leb, List, [], ◌∷◌, ◌++◌, length, get_or, drop, Some, None, Option, sym, refl, ap, ◌∙◌, subst, arith, length-drop, ltb-false, le-ltb, ne_eqb, le-leb}
+use Rattle.std.proofs.Common.{◌≡◌, ℕ, zero, suc, ◌+◌, ◌-◌, ◌^◌, ◌<◌, ◌≤◌, Bool, true, false, not, ◌&&◌, eqb, ltb, leb, List, length, get_or, drop, sym, refl, ap, ◌∙◌, arith, length-drop, ltb-false, le-ltb, ne_eqb, le-leb}
 use borrow.Author.Tests.{eqb-false}
 use Rattle.fault.specs.declared.FrameFault.TheVariants.{Body, Lifetime, Number, Check}
 use Rattle.fault.proofs.Laws.{fails_not, not_fails}
 use Rattle.octets.specs.Octets.{Octets, octets, field}
 use Rattle.octets.specs.Checks.{right}
-use Rattle.octets.specs.Fields.{Whole, broken_field}
+use Rattle.octets.specs.Fields.{broken_field}
 use Rattle.octets.specs.declared.checks.CheckOctets.{CheckOctets}
 use Rattle.octets.proofs.Numbers.{value-octets}
 use Rattle.octets.proofs.FieldLaws.{whole_none, none_whole}
@@ -13,7 +13,7 @@ use Rattle.frame.specs.declared.kind.Kind.TheVariants.{Lsp}
 use Rattle.frame.specs.Messages.{LspPdu, lsp, covered_part, encode}
 use Rattle.frame.specs.Reading.{lsp_faults, lsp_in, check_wrong, check_at}
 use Rattle.frame.specs.Trip.{LspFits}
-use Rattle.frame.proofs.Heads.{NoFaults, Heads, cell, run, begins, octets-field, not_so, field_under}
+use Rattle.frame.proofs.Heads.{NoFaults, Heads, cell, run, begins, octets-field, field_under}
 
 -- where the parts of an LSP stand in a frame
 pub record Lays (f : List ℕ) (m : LspPdu) : Type 0 where

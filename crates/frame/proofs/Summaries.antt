@@ -1,5 +1,5 @@
 -- A summary that is written reads back, one that is read is written again, and fits.
-use Rattle.std.proofs.Common.{◌≡◌, ℕ, zero, suc, ◌+◌, ◌-◌, ◌*◌, ◌/◌, ◌^◌, ◌<◌, ◌≤◌, Bool, true, false, not, eqb, ltb, leb, List, [], ◌∷◌, ◌++◌, length, get_or, drop, sym, refl, ap, ◌∙◌, subst, arith, length-drop, ltb-false, le-ltb}
+use Rattle.std.proofs.Common.{◌≡◌, ℕ, zero, suc, ◌+◌, ◌-◌, ◌*◌, ◌/◌, ◌≤◌, true, not, List, length, get_or, drop, sym, refl, ap, ◌∙◌, subst, arith, length-drop, ltb-false, le-ltb}
 use borrow.Author.Tests.{not-false}
 use Rattle.std.specs.List.{AllByRecursion as All}
 use Rattle.fault.specs.declared.FrameFault.TheVariants.{Tail, Range}
@@ -9,7 +9,7 @@ use Rattle.octets.proofs.Numbers.{value-octets}
 use Rattle.frame.specs.declared.kind.Kind.TheVariants.{Csnp, Psnp}
 use Rattle.frame.specs.Messages.{SnpEntry, CsnpPdu, PsnpPdu, csnp, psnp, tail_octets, encode}
 use Rattle.frame.specs.Reading.{last_id, tail_right, entries_at, entries_of, entries_faults, csnp_faults, psnp_faults, csnp_in, psnp_in}
-use Rattle.frame.specs.Trip.{EntryFits, Rises, CsnpFits, PsnpFits}
+use Rattle.frame.specs.Trip.{EntryFits, CsnpFits, PsnpFits}
 use Rattle.frame.proofs.Heads.{NoFaults, Heads, run, begins, octets-field, field_under, not_so}
 use Rattle.frame.proofs.EntryLists.{length_tail, tail_fits, tail_read, entries_none, entries_rise, entries_fit, tail_back, tail_counts, length_entries_at}
 

@@ -1,5 +1,5 @@
 -- Every message that can be said reads back, and every frame that was read is written octet for octet.
-use Rattle.std.proofs.Common.{◌≡◌, ℕ, ◌+◌, ◌^◌, ◌<◌, ◌≤◌, List, [], ◌∷◌, ◌++◌, drop, Some, None, Ok, Option, Result, sym, refl, ap, ◌∙◌, subst, arith}
+use Rattle.std.proofs.Common.{◌≡◌, ℕ, List, drop, Some, Ok, Option, Result, sym, refl, ap, ◌∙◌, subst, arith}
 use Rattle.fault.specs.declared.FrameFault.{FrameFault}
 use Rattle.fault.specs.Order.{frame_rank}
 use Rattle.fault.specs.Refusals.{frame_place}
@@ -9,11 +9,10 @@ use Rattle.octets.proofs.Numbers.{value-octets}
 use Rattle.frame.specs.declared.kind.Kind.{Kind}
 use Rattle.frame.specs.declared.kind.Kind.TheVariants.{Lsp, Csnp, Psnp}
 use Rattle.frame.specs.declared.message.Message.{Message}
-use Rattle.frame.specs.declared.message.Message.TheVariants as Message
 use Rattle.frame.specs.Meaning.{message_said, OwnParts, content_octets}
 use Rattle.frame.specs.Messages.{LspPdu, CsnpPdu, PsnpPdu, Pdu, lsp, csnp, psnp, encode}
 use Rattle.frame.specs.Reading.{kind_of, header_faults, kind_faults, faults, refusal, said, decode}
-use Rattle.frame.specs.Trip.{Reads, content_place, LspFits, CsnpFits, PsnpFits, Fits, ReadsBack, WritesBack, ReadFits}
+use Rattle.frame.specs.Trip.{Reads, content_place, Fits, ReadsBack, WritesBack, ReadFits}
 use Rattle.frame.proofs.Heads.{NoFaults, Heads, answered_ok, answered_is, kind_is, header-none, heads_of}
 use Rattle.frame.proofs.Lsps.{Lays, lays, lsp_says, lsp_none, lsp_back, lsp_fitting}
 use Rattle.frame.proofs.Summaries.{psnp_heads, psnp_says, psnp_none, psnp_back, psnp_fitting, csnp_heads, csnp_says, csnp_none, csnp_back, csnp_fitting}

@@ -1,10 +1,9 @@
 -- What the code's messages say.
-use Rattle.std.specs.Prelude.{◌≡◌, ℕ, ◌+◌, ◌*◌, ◌/◌, min, List, [], ◌∷◌, length, drop, Ok, Err, Result}
+use Rattle.std.specs.Prelude.{◌≡◌, ℕ, ◌/◌, min, List, length, drop, Ok, Err, Result}
 use Rattle.fault.specs.declared.FrameFault.{FrameFault}
 use Rattle.octets.specs.Octets.{value}
 use Rattle.frame.specs.declared.message.Lsp.{Lsp as LspValue}
 use Rattle.frame.specs.declared.message.Entry.{Entry}
-use Rattle.frame.specs.declared.message.Entries.{Entries}
 use Rattle.frame.specs.declared.message.Csnp.{Csnp as CsnpValue}
 use Rattle.frame.specs.declared.message.Psnp.{Psnp as PsnpValue}
 use Rattle.frame.specs.declared.message.Message.{Message}

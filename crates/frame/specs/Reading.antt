@@ -1,10 +1,10 @@
 -- Reading a frame: its faults, and what it says where it has none.
-use Rattle.std.specs.Prelude.{ℕ, zero, suc, ◌+◌, ◌*◌, ◌/◌, ◌%◌, ◌^◌, Bool, true, false, cond, not, ◌&&◌, ◌||◌, List, [], ◌∷◌, ◌++◌, length, drop, is_some, Some, None, Ok, Err, Option, Result, ◌==◌, nat_le, nat_lt, slice_index}
+use Rattle.std.specs.Prelude.{ℕ, zero, suc, ◌+◌, ◌/◌, ◌%◌, Bool, true, false, cond, not, ◌&&◌, ◌||◌, List, [], ◌∷◌, ◌++◌, length, drop, is_some, Some, None, Ok, Err, Option, Result, ◌==◌, nat_le, nat_lt, slice_index}
 use Rattle.fault.specs.declared.FrameFault.{FrameFault}
 use Rattle.fault.specs.declared.FrameFault.TheVariants.{Short, Fixed, Kind as UnknownKind, Header, Length, Tail, Lifetime, Number, Range, Order, Check}
 use Rattle.fault.specs.Order.{fails, first_fault}
 use Rattle.octets.specs.declared.checks.CheckOctets.{CheckOctets}
-use Rattle.octets.specs.Octets.{value, part, field}
+use Rattle.octets.specs.Octets.{value, field}
 use Rattle.octets.specs.Checks.{right}
 use Rattle.octets.specs.Fields.{body_faults}
 use Rattle.frame.specs.declared.kind.Kind.{Kind}

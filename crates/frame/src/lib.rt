@@ -1,4 +1,6 @@
 // Frames: LSP, CSNP and PSNP read from octets and written to them.
+#![tactic(auto)]
+
 mod cells;
 mod entries;
 mod header;

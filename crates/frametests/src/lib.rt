@@ -1,3 +1,5 @@
+#![tactic(auto)]
+
 // Tests of frames: what is read, what is refused and where, and what is written.
 #[cfg(test)]
 mod checks;

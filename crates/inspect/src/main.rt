@@ -1,4 +1,6 @@
 // Reads captured frames as lines of hexadecimal on standard input, and says what is in each.
+#![tactic(auto)]
+
 use std::alloc::Global;
 use std::io::Read;
 

@@ -2,7 +2,6 @@
 use Rattle.std.specs.Prelude.{◌≡◌, ℕ, List, [], ◌∷◌, ◌++◌}
 use Rattle.octets.specs.Octets.{octets}
 use Rattle.octets.specs.Checks.{check_octets}
-use Rattle.octets.specs.declared.checks.CheckOctets.{CheckOctets}
 
 -- its part from octet 12 on, with 0 for its check octets: the identifier, the number, the check octets, the flag, the body
 abbrev pub sample : ℕ → List ℕ → List ℕ

@@ -1,4 +1,6 @@
 // Octets: identifiers and their order, check octets, fields.
+#![tactic(auto)]
+
 mod checks;
 mod fields;
 mod ids;

@@ -1,5 +1,5 @@
 -- What masks do to the bits of an octet.
-use Rattle.std.proofs.Common.{◌≡◌, ℕ, zero, suc, ◌+◌, ◌-◌, ◌*◌, ◌/◌, ◌%◌, ◌^◌, ◌<◌, min, max, Bool, true, false, cond, not, ◌&&◌, ◌||◌, eqb, sym, refl, ap, ◌∙◌, arith, lit<}
+use Rattle.std.proofs.Common.{◌≡◌, ℕ, zero, suc, ◌-◌, ◌/◌, ◌%◌, ◌^◌, ◌<◌, min, max, Bool, false, not, ◌&&◌, ◌||◌, eqb, refl, ap, ◌∙◌, arith, lit<}
 use native.Mathlib.Nat.{zero-div}
 use lib.Bits.{bit_and, bit_or, or_shr, or_step, and_shr, and_step}
 use Rattle.std.proofs.lemmas.Bool.Decides.{nat_tests}

@@ -1,8 +1,7 @@
 -- The order of records is the order of one rank.
-use Rattle.std.proofs.Common.{◌≡◌, ℕ, ◌+◌, ◌*◌, ◌<◌, Bool, true, false, cond, eqb, ltb, sym, refl, ap, ◌∙◌, inl, inr, arith}
+use Rattle.std.proofs.Common.{◌≡◌, ℕ, ◌<◌, Bool, true, false, cond, eqb, ltb, refl, arith}
 use Rattle.std.proofs.lemmas.Bool.Decides.{nat_tests}
 use Rattle.std.proofs.lemmas.Bool.{ltb-true, ltb-false, eqb-true, eqb-false}
-use Rattle.record.specs.declared.form.Recency.{Recency}
 use Rattle.record.specs.declared.form.Recency.TheVariants.{Newer, Same, Older}
 use Rattle.record.specs.Order.{recency, rank, Stands}
 

@@ -1,5 +1,5 @@
 -- What can be said is written, and right check octets are the computed ones.
-use Rattle.std.proofs.Common.{◌≡◌, ℕ, ◌-◌, ◌^◌, ◌<◌, ◌≤◌, Bool, true, false, cond, ◌&&◌, eqb, ltb, List, [], ◌∷◌, ◌++◌, length, take, Some, None, Ok, Err, Option, Result, sym, refl, ap, ◌∙◌, subst, arith}
+use Rattle.std.proofs.Common.{◌≡◌, ℕ, ◌-◌, ◌<◌, Bool, true, false, cond, ◌&&◌, eqb, ltb, List, ◌∷◌, ◌++◌, length, take, Ok, Err, Result, sym, refl, ap, ◌∙◌, subst, arith}
 use Rattle.std.proofs.lemmas.Bool.{and_parts, and_from, eqb-true, eq-eqb, true≢false, ltb-true, ltb-false}
 use Rattle.std.proofs.ByRecursion.{All-append}
 use Rattle.fault.specs.declared.FrameFault.{FrameFault}
@@ -10,8 +10,8 @@ use Rattle.octets.specs.Octets.{Octets, octets}
 use Rattle.octets.specs.Checks.{right, check_octets}
 use Rattle.octets.proofs.CheckLaws.{same_check, right_computed}
 use Rattle.octets.proofs.Numbers.{octets-octets}
-use Rattle.frame.specs.Messages.{LspPdu, Pdu, lsp, covered_part, encode}
-use Rattle.frame.specs.Reading.{refusal, kind_of, decode, answered, faults}
+use Rattle.frame.specs.Messages.{LspPdu, lsp, covered_part, encode}
+use Rattle.frame.specs.Reading.{decode, faults}
 use Rattle.frame.specs.Trip.{LspFits}
 use Rattle.frame.proofs.Trips.{reads_back}
 use Rattle.writer.specs.Writing.{Writes, with_check_octets}

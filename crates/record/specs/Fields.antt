@@ -1,5 +1,5 @@
 -- The forms of records, as tests of what they hold.
-use Rattle.std.specs.Prelude.{ℕ, Bool, true, false, not, ◌&&◌, ◌||◌, List, [], length, is_some, ◌==◌, nat_le}
+use Rattle.std.specs.Prelude.{ℕ, Bool, not, ◌&&◌, ◌||◌, List, length, is_some, ◌==◌, nat_le}
 use Rattle.octets.specs.Checks.{right}
 use Rattle.octets.specs.Fields.{broken_field}
 use Rattle.frame.specs.Messages.{LspPdu, covered_part}

@@ -1,8 +1,7 @@
 -- The three forms of records.
-use Rattle.std.specs.Prelude.{◌≡◌, ℕ, ◌+◌, ◌^◌, ◌<◌, ◌≤◌, Bool, true, false, cond, List, [], length, Some, None, Option, nat_le}
+use Rattle.std.specs.Prelude.{◌≡◌, ℕ, ◌≤◌, Bool, true, false, cond, List, [], length, nat_le}
 use Rattle.octets.specs.declared.checks.CheckOctets.{CheckOctets}
 use Rattle.octets.specs.Checks.{right, check_octets}
-use Rattle.octets.specs.Octets.{value}
 use Rattle.octets.specs.Fields.{Whole}
 use Rattle.frame.specs.Messages.{LspPdu, covered_part}
 use Rattle.frame.specs.Trip.{LspFits}

@@ -1,5 +1,5 @@
 -- What a store answers, and what it means afterwards, by what it means.
-use Rattle.std.specs.Prelude.{ℕ, Bool, cond, length, is_some, Result, slice_set}
+use Rattle.std.specs.Prelude.{ℕ, cond, length, is_some, Result, slice_set}
 use Rattle.octets.specs.Octets.{value}
 use Rattle.fault.specs.declared.CallFault.{CallFault}
 use Rattle.fault.specs.Order.{unless}

@@ -1,5 +1,5 @@
 -- Lists of records by rising identifier. Of a record only the identifier matters here.
-use Rattle.std.specs.Prelude.{ℕ, zero, suc, ◌<◌, ◌≤◌, Bool, true, false, cond, ◌&&◌, List, [], ◌∷◌, Some, None, Option, ◌==◌, nat_lt, slice_index_or}
+use Rattle.std.specs.Prelude.{ℕ, zero, suc, Bool, true, cond, ◌&&◌, List, [], ◌∷◌, Some, None, Option, ◌==◌, nat_lt, slice_index_or}
 use Rattle.octets.specs.Octets.{value}
 use Rattle.record.specs.declared.record.Record.{Record}
 

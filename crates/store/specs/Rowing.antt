@@ -1,8 +1,8 @@
 -- A row after a set and after a removal.
-use Rattle.std.specs.Prelude.{◌≡◌, ℕ, ◌+◌, ◌-◌, ◌<◌, ◌≤◌, Bool, true, false, cond, not, ◌&&◌, ◌⊎◌, List, [], ◌∷◌, ◌++◌, length, get_or, take, drop, set, is_some, Some, None, ◌≢◌, nat_le, slice_index_or, slice_set, refl}
+use Rattle.std.specs.Prelude.{◌≡◌, ℕ, ◌+◌, ◌-◌, ◌<◌, ◌≤◌, true, false, not, ◌⊎◌, List, [], ◌∷◌, ◌++◌, length, get_or, take, drop, is_some, Some, None, ◌≢◌, nat_le, slice_index_or, slice_set}
 use Rattle.std.proofs.Common.{sym, ◌∙◌, ap, subst, inl, inr, arith, length-append, length-drop}
 use Rattle.std.specs.List.{remove}
-use Rattle.std.proofs.lemmas.Bool.{and_cases, not-false, leb-false, false≢true}
+use Rattle.std.proofs.lemmas.Bool.{and_cases, not-false, leb-false}
 use Rattle.std.proofs.lemmas.List.{take_more_set, take_at, take-append-le, length-set, length_push, length-take-le, get_or-take}
 use Rattle.record.specs.declared.record.Record.{Record}
 use Rattle.store.specs.declared.row.Row.{Row}

@@ -1,22 +1,20 @@
 -- The rows of the table by what they keep.
-use Rattle.std.specs.Prelude.{◌≡◌, ℕ, zero, suc, ◌<◌, ◌≤◌, Bool, true, false, cond, List, [], ◌∷◌, map, length, set, is_some, is_ok, Some, None, Ok, Err, Option, Result, slice_index_or, slice_set, refl}
+use Rattle.std.specs.Prelude.{◌≡◌, ℕ, zero, suc, ◌<◌, ◌≤◌, Bool, true, false, cond, List, [], ◌∷◌, length, set, is_some, is_ok, Some, None, Ok, Err, Option, Result, slice_index_or, slice_set, refl}
 use Rattle.std.proofs.Common.{sym, ap, ◌∙◌, arith}
 use Rattle.std.proofs.lemmas.List.{get_or-map, length-map, map-set, get_or-set_same, set-get_or}
-use Rattle.std.proofs.lemmas.Bool.{cond-true, cond-false, lt-leb}
+use Rattle.std.proofs.lemmas.Bool.{lt-leb}
 use Rattle.fault.specs.declared.CallFault.{CallFault}
-use Rattle.fault.specs.declared.CallFault.TheVariants.{Unknown, Full}
+use Rattle.fault.specs.declared.CallFault.TheVariants.{Full}
 use Rattle.fault.specs.Order.{unless}
 use Rattle.fault.proofs.Laws.{unless_err}
 use Rattle.store.specs.declared.requests.Request.{Request}
 use Rattle.store.specs.declared.requests.Request.TheVariants.{Set}
-use Rattle.store.specs.declared.requests.Reply.{Reply}
 use Rattle.store.specs.declared.requests.Reply.TheVariants.{Done}
 use Rattle.store.specs.Asking.{reply, asked}
 use Rattle.record.specs.declared.record.Record.{Record}
 use Rattle.store.specs.declared.row.Row.{Row}
 use Rattle.store.specs.Lists.{Lists, rises, of_router, placed}
 use Rattle.store.specs.Calls.{set_fault, is_full, Sets}
-use Rattle.store.specs.Sliding.{Fills}
 use Rattle.store.specs.Kept.{kept, all_kept}
 use Rattle.store.specs.Rowing.{count_is}
 

@@ -1,4 +1,6 @@
 // Stores: the records that each router holds.
+#![tactic(auto)]
+
 ghost use Rattle.std.specs.Prelude.{◌≡◌, ℕ, ◌≤◌, true, length};
 ghost use Rattle.fault.specs.Order.{unless};
 ghost use Rattle.octets.specs.Octets.{value};

@@ -1,3 +1,5 @@
+#![tactic(auto)]
+
 // Tests of records and stores.
 #[cfg(test)]
 mod records;

@@ -1,4 +1,6 @@
 // Fills, replaces, removes and lists records in a store, and prints what each call answered.
+#![tactic(auto)]
+
 use record::{Body, Record};
 use store::{Request, Store, Table, ask};
 

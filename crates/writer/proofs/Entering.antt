@@ -1,5 +1,5 @@
 -- Entries that are taken one after another.
-use Rattle.std.proofs.Common.{◌≡◌, ℕ, suc, ◌+◌, ◌-◌, ◌*◌, ◌^◌, ◌<◌, ◌≤◌, Bool, true, false, not, ◌&&◌, ltb, leb, List, [], ◌∷◌, ◌++◌, map, length, get_or, take, drop, set, Some, None, sym, refl, ap, ◌∙◌, subst, arith, ltb-false, le-ltb, lt-ltb, le-leb, leb-false, leb-true}
+use Rattle.std.proofs.Common.{◌≡◌, ℕ, suc, ◌+◌, ◌-◌, ◌*◌, ◌^◌, ◌<◌, ◌≤◌, true, false, not, ◌&&◌, ltb, leb, List, [], ◌∷◌, ◌++◌, map, length, get_or, take, drop, set, None, sym, refl, ap, ◌∙◌, arith, ltb-false, le-ltb, le-leb, leb-false}
 use Rattle.std.proofs.lemmas.Bool.Decides.{nat_tests}
 use Rattle.std.proofs.lemmas.List.{length-take-le, take_more_set, drop_more, drop_all, take_more, map-append, length-map}
 use Rattle.fault.specs.declared.FrameFault.TheVariants.{Summary}
@@ -11,7 +11,7 @@ use Rattle.frame.specs.Meaning.{entry_said}
 use Rattle.frame.specs.Reading.{last_id}
 use Rattle.frame.proofs.Heads.{or_off}
 use Rattle.frame.proofs.EntryLists.{and_on as and_both}
-use Rattle.writer.specs.Listing.{entry_right, rises, next_low, inside, entry_fault, range_fault}
+use Rattle.writer.specs.Listing.{entry_right, rises, next_low, inside, entry_fault}
 
 -- what a table of entries gives past its end
 abbrev pub blank : Entry

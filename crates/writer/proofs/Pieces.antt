@@ -1,5 +1,5 @@
 -- The octets of numbers and identifiers, and of the messages made of them.
-use Rattle.std.proofs.Common.{◌≡◌, ℕ, ◌+◌, ◌-◌, ◌*◌, ◌/◌, ◌%◌, ◌^◌, ◌<◌, ◌≤◌, List, [], ◌∷◌, ◌++◌, length, get_or, sym, refl, ap, ◌∙◌, arith}
+use Rattle.std.proofs.Common.{◌≡◌, ℕ, ◌/◌, ◌%◌, ◌^◌, ◌<◌, List, [], ◌∷◌, length, get_or, sym, refl, ap, arith}
 use Rattle.octets.specs.Octets.{Octets, octets, value}
 use Rattle.octets.proofs.Numbers.{octets-value, value_under}
 use Rattle.octets.proofs.Orders.{octets_from}

@@ -1,18 +1,18 @@
 -- What writing a message answers.
-use Rattle.std.proofs.Common.{◌≡◌, ℕ, ◌+◌, ◌^◌, ◌<◌, ◌≤◌, Bool, true, false, cond, not, ◌||◌, eqb, ltb, List, [], ◌∷◌, ◌++◌, length, get_or, drop, is_ok, Some, None, Ok, Err, Option, Result, sym, refl, ap, ◌∙◌, subst, arith, le-ltb, lt-ltb}
+use Rattle.std.proofs.Common.{◌≡◌, ℕ, ◌^◌, ◌<◌, ◌≤◌, Bool, true, false, not, ◌||◌, eqb, ltb, List, length, Some, None, Ok, Err, Option, Result, sym, refl, ap, ◌∙◌, arith, le-ltb, lt-ltb}
 use Rattle.std.specs.Option.{option_or}
 use Rattle.fault.specs.declared.FrameFault.{FrameFault}
 use Rattle.fault.specs.declared.FrameFault.TheVariants.{Length, Size}
-use Rattle.fault.specs.Order.{frame_rank, before, sooner, fails, first_fault, unless}
+use Rattle.fault.specs.Order.{frame_rank, before, sooner, fails, first_fault}
 use Rattle.fault.specs.Refusals.{frame_place}
 use Rattle.fault.proofs.Laws.{foremost_over, before_trans}
 use Rattle.octets.specs.Octets.{field}
 use Rattle.frame.specs.declared.kind.Kind.{Kind}
 use Rattle.frame.specs.declared.kind.Kind.TheVariants.{Lsp, Csnp, Psnp}
 use Rattle.frame.specs.Messages.{LspPdu, Pdu, lsp, csnp, psnp, encode}
-use Rattle.frame.specs.Reading.{kind_of, size_of, length_wrong, header_faults, kind_faults, faults, refusal, said, answered, decode}
+use Rattle.frame.specs.Reading.{kind_of, size_of, length_wrong, header_faults, kind_faults, refusal, said, answered, decode}
 use Rattle.frame.proofs.Answering.{first_header, first_kind, first_refusal, kind_rising}
-use Rattle.frame.proofs.Lsps.{Lays, lays, lsp_says}
+use Rattle.frame.proofs.Lsps.{lays, lsp_says}
 use Rattle.writer.specs.Writing.{write_fault, in_front, Writes}
 
 -- the kind of a written message

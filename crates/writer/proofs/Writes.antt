@@ -1,8 +1,8 @@
 -- Writes into a buffer, one after another.
-use Rattle.std.proofs.Common.{◌≡◌, ℕ, ◌+◌, ◌-◌, ◌/◌, ◌%◌, ◌^◌, ◌<◌, ◌≤◌, List, [], ◌∷◌, ◌++◌, length, get_or, take, drop, set, sym, refl, ap, ◌∙◌, subst, add-zero, zero-add, add-one, arith, length-append, length-set, take_at}
+use Rattle.std.proofs.Common.{◌≡◌, ℕ, ◌+◌, ◌-◌, ◌<◌, ◌≤◌, List, [], ◌∷◌, ◌++◌, length, take, drop, set, sym, refl, ap, ◌∙◌, subst, add-zero, zero-add, add-one, arith, length-append, length-set, take_at}
 use lib.Seq.{paste}
 use borrow.Rule.Slice.PartMut.{put_mid}
-use Rattle.std.proofs.lemmas.List.{set_split, length-take, length-drop, drop-drop, take-append-drop, take_more, flat_map_more}
+use Rattle.std.proofs.lemmas.List.{set_split, length-take, length-drop, drop-drop, take-append-drop}
 use Rattle.std.proofs.lemmas.List.Edits.{paste_all, paste-paste}
 use Rattle.writer.specs.Places.{placed, Wrote}
 

@@ -1,5 +1,5 @@
 -- Writing a message into a buffer's front.
-use Rattle.std.specs.Prelude.{◌≡◌, ℕ, ◌^◌, ◌<◌, Bool, true, cond, List, [], ◌∷◌, ◌++◌, length, drop, is_ok, Ok, Option, Result, nat_lt}
+use Rattle.std.specs.Prelude.{◌≡◌, ℕ, ◌^◌, ◌<◌, true, cond, List, ◌∷◌, ◌++◌, length, drop, is_ok, Ok, Option, Result, nat_lt}
 use Rattle.fault.specs.declared.FrameFault.{FrameFault}
 use Rattle.fault.specs.declared.FrameFault.TheVariants.{Size}
 use Rattle.fault.specs.Order.{fails, first_fault, unless}

@@ -1,4 +1,6 @@
 // Writing: LSPs and summaries into the caller's buffer.
+#![tactic(auto)]
+
 mod buffer;
 mod closes;
 mod lsps;

@@ -1,6 +1,6 @@
-use Rattle.std.proofs.Common.{◌≡◌, ◌≤◌, sym, refl, ap, ◌∙◌, arith}
+use Rattle.std.proofs.Common.{sym, refl, ap, ◌∙◌, arith}
 use Rattle.std.proofs.lemmas.Result.{err_from_is_err_and}
-use Rattle.octets.specs.Octets.{field, value}
+use Rattle.octets.specs.Octets.{value}
 use Rattle.frame.proofs.Lsps.{made_lsp}
 use Rattle.frame.proofs.Answering.{body_clear, body_refused, lsp_body, lsp_lifetime, lsp_number, lsp_check, lsp_right}
 use Rattle.frame.proofs.lsp.read_lsp.Goals as goal

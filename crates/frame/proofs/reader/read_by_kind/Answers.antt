@@ -1,9 +1,7 @@
-use Rattle.std.proofs.Common.{◌≡◌, ℕ, List, Ok, sym, refl, ap, ◌∙◌}
+use Rattle.std.proofs.Common.{Ok, sym, ap, ◌∙◌}
 use Rattle.std.proofs.lemmas.Result.{err_from_is_err_and}
-use Rattle.frame.specs.declared.kind.Kind.{Kind}
 use Rattle.frame.specs.declared.kind.Kind.TheVariants.{Lsp, Csnp, Psnp}
 use Rattle.frame.specs.Messages.{LspPdu, CsnpPdu, PsnpPdu, lsp, csnp, psnp}
-use Rattle.frame.specs.Reading.{header_answer}
 use Rattle.frame.proofs.Decoding.{header_refused, header_long, kind_refused, kind_read}
 use Rattle.frame.proofs.reader.read_by_kind.Goals as goal
 

@@ -1,4 +1,4 @@
-use Rattle.std.proofs.Common.{◌≡◌, ℕ, ◌+◌, ◌*◌, ◌<◌, ◌≤◌, Bool, true, ◌||◌, ltb, List, sym, refl, ap, ◌∙◌, arith}
+use Rattle.std.proofs.Common.{◌≡◌, ℕ, ◌+◌, ◌*◌, true, ◌||◌, ltb, List, sym, ap, ◌∙◌, arith}
 use Rattle.fault.specs.declared.FrameFault.TheVariants.{Lifetime, Order}
 use Rattle.octets.specs.Octets.{value}
 use Rattle.frame.specs.Reading.{floor}

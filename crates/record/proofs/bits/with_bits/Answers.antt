@@ -1,4 +1,4 @@
-use Rattle.std.proofs.Common.{arith, rules}
+use Rattle.std.proofs.Common.{arith}
 use Rattle.std.proofs.lemmas.Nat.{or_lt}
 use Rattle.record.proofs.Masks.{bit-or}
 use Rattle.record.proofs.bits.with_bits.Goals as goal

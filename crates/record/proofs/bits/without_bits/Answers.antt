@@ -1,4 +1,4 @@
-use Rattle.std.proofs.Common.{◌-◌, arith, rules}
+use Rattle.std.proofs.Common.{◌-◌, arith}
 use Rattle.std.proofs.lemmas.Nat.{and_le_l}
 use Rattle.record.proofs.Masks.{bit_clear}
 use Rattle.record.proofs.bits.without_bits.Goals as goal

@@ -1,4 +1,4 @@
-use Rattle.std.proofs.Common.{◌≡◌, true, sym, ap, ◌∙◌, subst, arith, rules}
+use Rattle.std.proofs.Common.{ap, ◌∙◌, arith}
 use Rattle.octets.proofs.FieldLaws.{body_whole}
 use Rattle.record.specs.Fields.{whole_fields}
 use Rattle.record.proofs.FormLaws.{whole_test, fault_short}

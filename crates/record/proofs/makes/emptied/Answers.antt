@@ -1,4 +1,4 @@
-use Rattle.std.proofs.Common.{◌≡◌, length, sym, refl, ap, ◌∙◌, subst, arith, rules}
+use Rattle.std.proofs.Common.{length, refl, ap, arith}
 use Rattle.record.specs.Forms.{no_check}
 use Rattle.record.specs.Bodies.{pdu}
 use Rattle.record.proofs.FormLaws.{bare-formed, quiet_none}

@@ -1,7 +1,5 @@
-use Rattle.std.proofs.Common.{◌≡◌, ℕ, Bool, true, ◌&&◌, eqb, sym, ap, ◌∙◌, arith, rules, eq-eqb, ne_eqb}
-use Rattle.std.proofs.lemmas.Bool.{and_left}
+use Rattle.std.proofs.Common.{Bool, ◌&&◌, eqb, sym, ap, ◌∙◌, arith, rules, eq-eqb, ne_eqb}
 use Rattle.octets.proofs.Orders.{octets_from}
-use Rattle.frame.specs.Meaning.{lsp_said}
 use Rattle.record.specs.Bodies.{lsp_by}
 use Rattle.record.proofs.SayLaws.{checked_right, covered_octets}
 use Rattle.record.proofs.makes.is_checked.Goals as goal

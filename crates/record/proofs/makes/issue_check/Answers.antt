@@ -1,4 +1,4 @@
-use Rattle.std.proofs.Common.{◌≡◌, ℕ, true, List, sym, refl, ap, ◌∙◌, subst, arith, rules}
+use Rattle.std.proofs.Common.{◌≡◌, ℕ, true, List, refl, ap, ◌∙◌, subst, arith}
 use Rattle.octets.specs.Checks.{right, check_octets}
 use Rattle.frame.specs.Messages.{covered_part}
 use Rattle.record.specs.Forms.{no_check}

@@ -1,4 +1,4 @@
-use Rattle.std.proofs.Common.{◌≡◌, take, drop, sym, refl, arith}
+use Rattle.std.proofs.Common.{sym, refl, arith}
 use Rattle.std.proofs.lemmas.List.{take_at, length-take-le}
 use Rattle.store.specs.Removing.{closed_more, closed_rest, closed_all}
 use Rattle.store.proofs.slides.close.Goals as goal

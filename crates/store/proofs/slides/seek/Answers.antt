@@ -1,4 +1,4 @@
-use Rattle.std.proofs.Common.{◌≡◌, sym, ◌∙◌, arith, rules}
+use Rattle.std.proofs.Common.{sym, arith}
 use Rattle.octets.specs.Octets.{value}
 use Rattle.store.specs.Removing.{seek_here, seek_more, seek_none}
 use Rattle.store.proofs.slides.seek.Goals as goal

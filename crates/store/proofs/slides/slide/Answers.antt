@@ -1,4 +1,4 @@
-use Rattle.std.proofs.Common.{◌≡◌, sym}
+use Rattle.std.proofs.Common.{sym}
 use Rattle.store.specs.Placing.{settled, replaced, passed_all}
 use Rattle.store.proofs.slides.slide.Goals as goal
 

@@ -1,4 +1,4 @@
-use Rattle.std.proofs.Common.{◌≡◌, length, get_or, sym, ap, ◌∙◌}
+use Rattle.std.proofs.Common.{length, get_or, sym, ap, ◌∙◌}
 use Rattle.store.specs.Rowing.{count_is}
 use Rattle.store.specs.Tabling.{row_at}
 use Rattle.store.proofs.tables.count_in.Goals as goal

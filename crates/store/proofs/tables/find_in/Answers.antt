@@ -1,4 +1,4 @@
-use Rattle.std.proofs.Common.{◌≡◌, sym, ap, ◌∙◌}
+use Rattle.std.proofs.Common.{sym, ap, ◌∙◌}
 use Rattle.octets.specs.Octets.{value}
 use Rattle.store.specs.Lists.{lookup}
 use Rattle.store.specs.Tabling.{row_read}

@@ -1,4 +1,4 @@
-use Rattle.std.proofs.Common.{◌≡◌, List, sym, ap, ◌∙◌}
+use Rattle.std.proofs.Common.{List, sym, ap, ◌∙◌}
 use Rattle.record.specs.declared.record.Record.{Record}
 use Rattle.store.specs.Lists.{nth}
 use Rattle.store.specs.Tabling.{row_read}

@@ -1,4 +1,4 @@
-use Rattle.std.proofs.Common.{◌≡◌, List, set, sym, ap, ◌∙◌}
+use Rattle.std.proofs.Common.{List, set, sym, ap, ◌∙◌}
 use Rattle.record.specs.declared.record.Record.{Record}
 use Rattle.octets.specs.Octets.{value}
 use Rattle.store.specs.Lists.{lookup, without}

@@ -1,4 +1,4 @@
-use Rattle.std.proofs.Common.{◌≡◌, [], ◌∷◌, refl, ap, ◌∙◌, arith}
+use Rattle.std.proofs.Common.{◌≡◌, [], ◌∷◌, ap, ◌∙◌}
 use Rattle.octets.specs.Checks.{sums_then, check_octets}
 use Rattle.octets.specs.declared.checks.Sums.{Sums}
 use Rattle.frame.specs.Messages.{covered_part}

@@ -1,4 +1,4 @@
-use Rattle.std.proofs.Common.{◌≡◌, ℕ, None, sym, ◌∙◌, arith, rules}
+use Rattle.std.proofs.Common.{◌≡◌, ℕ, None, sym, ◌∙◌, arith}
 use Rattle.octets.specs.Fields.{body_fault}
 use Rattle.octets.proofs.FieldLaws.{body_fits}
 use Rattle.record.proofs.FormLaws.{heard-formed, quiet_none}
@@ -21,7 +21,7 @@ invariant_of-result c =
       numbered = omega arith;
       form =
           heard-formed m.id c.fitting.result m.number m.lifetime m.check m.flags c.in-Ok.body m.body.now
-              c.fitting.ensures.is c.in-Ok.ensures.1 (omega arith) (omega arith) (omega arith)
-              (sym c.is_checked.ensures ∙ c.if-not-is_checked.false);
+          c.fitting.ensures.is c.in-Ok.ensures.1 (omega arith) (omega arith) (omega arith)
+          (sym c.is_checked.ensures ∙ c.if-not-is_checked.false);
       unsent = quiet_none m.number;
     }

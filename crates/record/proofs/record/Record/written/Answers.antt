@@ -1,4 +1,4 @@
-use Rattle.std.proofs.Common.{◌≡◌, sym, ap, ◌∙◌, subst}
+use Rattle.std.proofs.Common.{subst}
 use Rattle.frame.specs.Messages.{LspPdu, lsp}
 use Rattle.writer.specs.Writing.{Writes}
 use Rattle.record.proofs.FormLaws.{record_fits}

@@ -1,9 +1,8 @@
-use Rattle.std.proofs.Common.{◌≡◌, ℕ, ◌-◌, ◌≤◌, List, ◌++◌, map, length, take, sym, refl, ap, ◌∙◌, arith}
-use native.Mathlib.Nat.{sub-zero}
+use Rattle.std.proofs.Common.{◌≡◌, ◌≤◌, List, map, length, take, ap, ◌∙◌, arith}
 use Rattle.std.proofs.lemmas.List.{length-take-le}
 use Rattle.octets.specs.Octets.{value}
 use Rattle.frame.specs.declared.message.Entry.{Entry}
-use Rattle.frame.specs.Messages.{tail_octets, encode}
+use Rattle.frame.specs.Messages.{tail_octets}
 use Rattle.frame.specs.Meaning.{entry_said}
 use Rattle.frame.proofs.Trips.{reads_back}
 use Rattle.writer.specs.Summaries.{head_octets, tail_size, summary_said}
