@@ -1,6 +1,6 @@
 -- Entries of a summary, written and read back, at an offset that stays a variable.
 use Rattle.std.proofs.Common.{◌≡◌, ℕ, zero, suc, ◌+◌, ◌-◌, ◌*◌, ◌/◌, ◌%◌, ◌<◌, ◌≤◌, min, Bool, true, false, ◌&&◌, eqb, ltb, leb, List, [], ◌∷◌, ◌++◌, length, get_or, take, drop, sym, refl, ap, ◌∙◌, arith, length-drop, get_or-drop, drop-drop, ltb-false, le-ltb, eq-eqb, eqb-true, le-leb, leb-true}
-use Rattle.std.specs.List.{AllByRecursion as All}
+use Rattle.std.specs.List.{AllByRecursion}
 use Rattle.std.proofs.ByRecursion.{All-drop}
 use Rattle.std.proofs.lemmas.List.{take_all}
 use Rattle.fault.specs.declared.FrameFault.TheVariants.{Lifetime, Order}
@@ -51,7 +51,7 @@ entry_read e rest f at h p =
 entry_past : (e : SnpEntry) (rest f : List ℕ) (at : ℕ) → drop at f ≡ entry_octets e ++ rest → drop (at + 16) f ≡ rest
 entry_past e rest f at p = sym (drop-drop 16 at f) ∙ ap (drop 16) p
 
-pub entries_read : (es : List SnpEntry) (f : List ℕ) (at : ℕ) → All EntryFits es → drop at f ≡ entries_octets es → entries_at (length es) at f ≡ es
+pub entries_read : (es : List SnpEntry) (f : List ℕ) (at : ℕ) → AllByRecursion EntryFits es → drop at f ≡ entries_octets es → entries_at (length es) at f ≡ es
 entries_read [] f at h p = refl
 entries_read (e ∷ es) f at h p =
     ap (λ (x : SnpEntry). x ∷ entries_at (length es) (at + 16) f) (entry_read e (entries_octets es) f at h.0 p)
@@ -75,7 +75,7 @@ tail_fits (e ∷ es) l =
     (eq-eqb ((16 * length (e ∷ es)) % 16) 0 (omega arith)) (le-leb 16 (16 * length (e ∷ es)) (omega arith))
     (le-leb (16 * length (e ∷ es)) 240 (omega arith))
 
-pub tail_read : (es : List SnpEntry) (f : List ℕ) (size : ℕ) → All EntryFits es → drop size f ≡ tail_octets es → entries_of size f ≡ es
+pub tail_read : (es : List SnpEntry) (f : List ℕ) (size : ℕ) → AllByRecursion EntryFits es → drop size f ≡ tail_octets es → entries_of size f ≡ es
 tail_read [] f size h p =
     let g : get_or f (size + 1) 0 ≡ 0 = octet_from f [] size 1 p in
     ap (λ (n : ℕ). entries_at (n / 16) (size + 2) f) g
@@ -85,7 +85,7 @@ tail_read (e ∷ es) f size h p =
     ap (λ (k : ℕ). entries_at k (size + 2) f) n
     ∙ entries_read (e ∷ es) f (size + 2) h (sym (drop-drop 2 size f) ∙ ap (drop 2) p)
 
-pub entries_none : (es : List SnpEntry) (at low high : ℕ) → All EntryFits es → Rises low high es → NoFaults (entries_faults at low high es)
+pub entries_none : (es : List SnpEntry) (at low high : ℕ) → AllByRecursion EntryFits es → Rises low high es → NoFaults (entries_faults at low high es)
 entries_none [] at low high h r = tt
 entries_none (e ∷ es) at low high h r = (
   not_fails _ (Lifetime at) (le-ltb 1200 e.lifetime h.0.lifetime),
@@ -104,7 +104,7 @@ entries_rise (e ∷ es) at low high z =
 
 -- entries that were read without a fault can be said
 pub entries_fit : (k : ℕ) (f : List ℕ) (at place low high : ℕ) → Octets f → at + 16 * k ≤ length f →
-    NoFaults (entries_faults place low high (entries_at k at f)) → All EntryFits (entries_at k at f)
+    NoFaults (entries_faults place low high (entries_at k at f)) → AllByRecursion EntryFits (entries_at k at f)
 entries_fit zero f at place low high h n z = tt
 entries_fit (suc k) f at place low high h n z = (
   record {

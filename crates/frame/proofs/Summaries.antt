@@ -1,7 +1,7 @@
 -- A summary that is written reads back, one that is read is written again, and fits.
 use Rattle.std.proofs.Common.{◌≡◌, ℕ, zero, suc, ◌+◌, ◌-◌, ◌*◌, ◌/◌, ◌≤◌, true, not, List, length, get_or, drop, sym, refl, ap, ◌∙◌, subst, arith, length-drop, ltb-false, le-ltb}
 use borrow.Author.Tests.{not-false}
-use Rattle.std.specs.List.{AllByRecursion as All}
+use Rattle.std.specs.List.{AllByRecursion}
 use Rattle.fault.specs.declared.FrameFault.TheVariants.{Tail, Range}
 use Rattle.fault.proofs.Laws.{fails_not, not_fails}
 use Rattle.octets.specs.Octets.{Octets, octets, field}
@@ -97,11 +97,11 @@ module _ (f : List ℕ) (size : ℕ) (h : Octets f) (b : size ≤ length f) (r :
   few_entries =
       omega (arith, length_entries_at (get_or f (size + 1) 0 / 16) f (size + 2), (tail_counts (drop size f) f size refl r b).0)
 
-  pub fit_entries : (place low high : ℕ) → NoFaults (entries_faults place low high (entries_of size f)) → All EntryFits (entries_of size f)
+  pub fit_entries : (place low high : ℕ) → NoFaults (entries_faults place low high (entries_of size f)) → AllByRecursion EntryFits (entries_of size f)
   fit_entries place low high z = go (get_or f (size + 1) 0 / 16) (tail_counts (drop size f) f size refl r b).1 z
     where
       go : (k : ℕ) → (1 ≤ k → size + 2 + 16 * k ≡ length f) → NoFaults (entries_faults place low high (entries_at k (size + 2) f)) →
-          All EntryFits (entries_at k (size + 2) f)
+          AllByRecursion EntryFits (entries_at k (size + 2) f)
       go zero e z = tt
       go (suc k) e z = entries_fit (suc k) f (size + 2) place low high h (omega (arith, e (omega arith))) z
 

@@ -1,6 +1,6 @@
 -- Writing and reading back.
 use Rattle.std.specs.Prelude.{◌≡◌, ℕ, ◌+◌, ◌^◌, ◌<◌, ◌≤◌, true, List, [], ◌∷◌, length, drop, Ok, Result}
-use Rattle.std.specs.List.{AllByRecursion as All}
+use Rattle.std.specs.List.{AllByRecursion}
 use Rattle.fault.specs.declared.FrameFault.{FrameFault}
 use Rattle.fault.specs.Order.{frame_rank, Answers}
 use Rattle.fault.specs.Refusals.{frame_place}
@@ -32,7 +32,7 @@ Rises low high (e ∷ es) = (low ≤ e.id) × (e.id ≤ high) × Rises (e.id + 1
 
 pub record PsnpFits (m : PsnpPdu) : Type 0 where
   pub source : m.source < 256 ^ 7
-  pub entries : All EntryFits m.entries
+  pub entries : AllByRecursion EntryFits m.entries
   pub few : length m.entries ≤ 15
   pub rising : Rises 0 last_id m.entries
 
@@ -41,7 +41,7 @@ pub record CsnpFits (m : CsnpPdu) : Type 0 where
   pub start : m.start < 256 ^ 8
   pub end : m.end < 256 ^ 8
   pub range : m.start ≤ m.end
-  pub entries : All EntryFits m.entries
+  pub entries : AllByRecursion EntryFits m.entries
   pub few : length m.entries ≤ 15
   pub rising : Rises m.start m.end m.entries
 

@@ -1,7 +1,7 @@
 -- The promise, of every run of add, attach, up, down, originate, withdraw and tick, over every plant that keeps its interface's laws and over every store.
 -- Read it from top to bottom: convergence, the issue book, and that no run reaches a case whose meaning is a stand-in.
 use Rattle.std.specs.Prelude.{◌≡◌, ℕ, ◌+◌, ◌-◌, ◌*◌, ◌<◌, ◌≤◌, true, ◌≢◌, [], ◌∷◌, length, Some, Ok, slice_index_or}
-use Rattle.std.specs.List.{AllByRecursion as All}
+use Rattle.std.specs.List.{AllByRecursion}
 use Rattle.record.specs.declared.form.Recency.TheVariants.{Older}
 use Rattle.plant.specs.Air.{Air}
 use Rattle.plant.specs.Calls.{PutOver, TakeOver}
@@ -54,7 +54,7 @@ pub record Alike (x y : HeldRecord) : Type 0 where
 pub record Settled {P : Type 0} (air : P → Air) (put : PutOver P) (take : TakeOver P) (s t : State P) (B : ℕ) : Type 0 where
   pub history : History
   pub calls : Stretch air put take s t history
-  pub topology : All KeepsTopology history
+  pub topology : AllByRecursion KeepsTopology history
   pub ticks : counted tick_count history ≡ 20 * (length s.routers + B)
   pub misses : counted missing_count history ≤ B
   pub joined : Joined s

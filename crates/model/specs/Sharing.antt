@@ -1,7 +1,7 @@
 -- Which records a turn puts, and how a database is shared among frames: LSPs one to a record, PSNPs of 15 entries, and CSNP sets, of which the sharing is free.
 -- Identifiers rise within each, as they do in the database.
 use Rattle.std.specs.Prelude.{◌≡◌, ℕ, ◌+◌, ◌≤◌, not, ◌&&◌, List, [], ◌∷◌, map, length, filter, nat_le}
-use Rattle.std.specs.List.{AllByRecursion as All}
+use Rattle.std.specs.List.{AllByRecursion}
 use Rattle.frame.specs.Messages.{CsnpPdu}
 use Rattle.frame.specs.Reading.{last_id}
 use Rattle.model.specs.Lists.{cut_by}
@@ -41,5 +41,5 @@ pub data Spans : ℕ → List CsnpPdu → Type 0 where
 -- a CSNP set of a system that holds d: from eight 00 to eight FF, in at most four frames
 pub record CsnpSet (system : ℕ) (d : Database) (ms : List CsnpPdu) : Type 0 where
   pub spans : Spans 0 ms
-  pub lists : All (ListsRange system d) ms
+  pub lists : AllByRecursion (ListsRange system d) ms
   pub few : length ms ≤ 4

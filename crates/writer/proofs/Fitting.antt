@@ -1,7 +1,7 @@
 -- A closed summary can be said, and its octets are those of its parts.
 use Rattle.std.proofs.Common.{◌≡◌, ℕ, suc, ◌+◌, ◌*◌, ◌^◌, ◌<◌, ◌≤◌, Bool, true, false, cond, ◌&&◌, eqb, leb, List, [], ◌∷◌, ◌++◌, map, length, sym, refl, ap, ◌∙◌, arith, ne_eqb, leb-true}
 use Rattle.std.proofs.lemmas.List.{length-map}
-use Rattle.std.specs.List.{AllByRecursion as All}
+use Rattle.std.specs.List.{AllByRecursion}
 use Rattle.octets.specs.Octets.{value, octets}
 use Rattle.frame.specs.declared.message.Entry.{Entry}
 use Rattle.frame.specs.declared.kind.Kind.TheVariants as Kind
@@ -31,7 +31,7 @@ head_of low e es h =
     let b = and_both (entry_right e) _ a.1 in
     (leb-true low (value e.id) a.0, b.0, b.1)
 
-entries_fit : (low : ℕ) (es : List Entry) → rises low es ≡ true → All EntryFits (map entry_said es)
+entries_fit : (low : ℕ) (es : List Entry) → rises low es ≡ true → AllByRecursion EntryFits (map entry_said es)
 entries_fit low [] h = tt
 entries_fit low (e ∷ es) h = let p = head_of low e es h in (entry_fits e p.1, entries_fit (value e.id + 1) es p.2)
 
