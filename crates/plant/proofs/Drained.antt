@@ -1,11 +1,10 @@
 -- Ends that take one after another.
-use Rattle.std.proofs.Common.{◌≡◌, ℕ, zero, suc, ◌+◌, ◌<◌, ◌≤◌, Bool, true, false, cond, ltb, ◌≢◌, List, [], ◌∷◌, map, length, get_or, set, Some, None, Ok, Err, Option, Result, sym, refl, ap, ◌∙◌, ⊎_elim, arith}
+use Rattle.std.proofs.Common.{◌≡◌, ℕ, ◌+◌, ◌<◌, ◌≤◌, ◌≢◌, List, [], length, get_or, set, None, Ok, Err, Option, Result, sym, refl, ap, ◌∙◌, ⊎_elim, arith}
 use Rattle.std.proofs.lemmas.List.{get_or-set_same, get_or-set_other, length-set, map-set, set-get_or}
 use Rattle.std.proofs.lemmas.Bool.{cases_eq, cases_lt, lt-ltb, le-ltb}
 use Rattle.fault.specs.declared.CallFault.{CallFault}
-use Rattle.plant.specs.declared.Kind.{Kind}
 use Rattle.plant.specs.declared.Kind.TheVariants.{PointToPoint}
-use Rattle.plant.specs.Air.{Air, Frame, Line, line, ends_of, waiting, shape, Drained}
+use Rattle.plant.specs.Air.{Air, Frame, Line, line, ends_of, waiting, shape}
 use Rattle.plant.specs.Calls.{Take, Takes, TakeOver, take_refusal, cleared, Drains}
 use Rattle.plant.proofs.Lines.{known_circuit, no_end, shape_at, same_ends}
 

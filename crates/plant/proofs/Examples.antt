@@ -1,12 +1,11 @@
 -- The definitions on a small plant: a cable whose end 1 holds a frame, and a bare segment of 3 ends.
-use Rattle.std.proofs.Common.{◌≡◌, ℕ, true, List, [], ◌∷◌, length, replicate, Some, None, Ok, Err, Option, refl}
+use Rattle.std.proofs.Common.{◌≡◌, true, [], ◌∷◌, replicate, Some, None, Ok, Err, refl}
 use Rattle.fault.specs.declared.FrameFault.TheVariants.{Size}
-use Rattle.fault.specs.declared.CallFault.{CallFault}
 use Rattle.fault.specs.declared.CallFault.TheVariants.{Unknown, Waiting}
 use Rattle.fault.specs.declared.CallFault.TheVariants as refusal
 use Rattle.plant.specs.declared.Kind.TheVariants.{PointToPoint, Broadcast}
-use Rattle.plant.specs.Air.{Air, Frame}
-use Rattle.plant.specs.Calls.{kind_answer, ends_answer, waits_answer, put_refusal, take_refusal, cleared, count, others, moved, length_of}
+use Rattle.plant.specs.Air.{Air}
+use Rattle.plant.specs.Calls.{kind_answer, ends_answer, waits_answer, put_refusal, take_refusal, cleared, count, others, moved}
 
 abbrev small : Air
 small = (record { kind = PointToPoint; ends = None ∷ Some (1 ∷ []) ∷ [] }) ∷ (record { kind = Broadcast; ends = None ∷ None ∷ None ∷ [] }) ∷ []

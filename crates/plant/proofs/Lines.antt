@@ -1,12 +1,10 @@
 -- Circuits and ends that are not there, and plants of one shape.
-use Rattle.std.proofs.Common.{◌≡◌, ℕ, zero, suc, ◌<◌, ◌≤◌, Bool, true, false, cond, ltb, List, [], ◌∷◌, length, get_or, is_some, None, Ok, Err, Result, sym, refl, ap, ◌∙◌, ⊎_elim, arith}
+use Rattle.std.proofs.Common.{◌≡◌, ℕ, zero, suc, ◌<◌, ◌≤◌, Bool, true, false, cond, [], ◌∷◌, length, get_or, None, Ok, Err, Result, sym, refl, ap, ◌∙◌, ⊎_elim, arith}
 use Rattle.std.proofs.lemmas.List.{get_or_past, length-map}
-use Rattle.std.proofs.lemmas.Bool.{cases_lt, cond-true, lt-ltb}
-use Rattle.fault.specs.declared.CallFault.{CallFault}
+use Rattle.std.proofs.lemmas.Bool.{cases_lt}
 use Rattle.plant.specs.declared.Kind.{Kind}
 use Rattle.plant.specs.declared.Kind.TheVariants.{PointToPoint}
 use Rattle.plant.specs.Air.{Air, Line, line, ends_of, waiting, shape}
-use Rattle.plant.specs.Calls.{ends_answer, waits_answer}
 
 pub no_ends : (a : Air) (c : ℕ) → length a ≤ c → ends_of a c ≡ 0
 no_ends a c h = ap (λ (l : Line). length l.ends) (get_or_past a c (record { kind = PointToPoint; ends = [] }) h)

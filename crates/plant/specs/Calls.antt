@@ -1,12 +1,12 @@
 -- What the calls of a plant answer, when they refuse, and what they do.
-use Rattle.std.specs.Prelude.{◌≡◌, ℕ, zero, suc, ◌+◌, ◌<◌, Bool, true, false, cond, not, ◌&&◌, ◌||◌, ◌≢◌, List, [], ◌∷◌, ◌++◌, length, drop, set, is_some, Some, None, Ok, Err, Decides, Option, Result, ◌==◌, nat_le, nat_lt, slice_index_or, slice_set}
+use Rattle.std.specs.Prelude.{◌≡◌, ℕ, zero, suc, ◌+◌, ◌<◌, Bool, true, false, cond, not, ◌&&◌, ◌||◌, ◌≢◌, List, [], ◌∷◌, ◌++◌, length, drop, is_some, Some, None, Ok, Err, Decides, Option, Result, ◌==◌, nat_le, nat_lt, slice_index_or, slice_set}
 use Rattle.fault.specs.declared.FrameFault.TheVariants.{Size}
 use Rattle.fault.specs.declared.CallFault.{CallFault}
 use Rattle.fault.specs.declared.CallFault.TheVariants.{Unknown, Waiting}
 use Rattle.fault.specs.declared.CallFault.TheVariants as refusal
 use Rattle.fault.specs.Order.{fails, first_refusal}
 use Rattle.plant.specs.declared.Kind.{Kind}
-use Rattle.plant.specs.Air.{Air, Frame, Line, line, ends_of, waiting, shape, Drained}
+use Rattle.plant.specs.Air.{Air, Frame, line, ends_of, waiting, shape, Drained}
 
 -- the questions, refused where there is no such circuit or end
 abbrev pub kind_answer : Air → ℕ → Result Kind CallFault

@@ -8,7 +8,7 @@ use fault::{CallFault, FrameFault};
 
 // How many ends a circuit has: none where there is no such circuit.
 pub fn count_ends<P: Plant>(plant: &P, circuit: Circuit) -> usize
-    ensures { result ≡ ends_of (air plant.now) circuit.0 }
+    ensures { result ≡ ends_of (P.air plant.now) circuit.0 }
 {
     match plant.ends(circuit) {
         Ok(n) => n,
@@ -18,7 +18,7 @@ pub fn count_ends<P: Plant>(plant: &P, circuit: Circuit) -> usize
 
 // Whether a frame waits at an end: none does where there is no such end.
 pub fn is_waiting<P: Plant>(plant: &P, circuit: Circuit, end: End) -> bool
-    ensures { result ≡ is_some (waiting (air plant.now) circuit.0 end.0) }
+    ensures { result ≡ is_some (waiting (P.air plant.now) circuit.0 end.0) }
 {
     match plant.waits(circuit, end) {
         Ok(waits) => waits,
@@ -28,7 +28,7 @@ pub fn is_waiting<P: Plant>(plant: &P, circuit: Circuit, end: End) -> bool
 
 // Whether a frame waits at another end of the circuit.
 pub fn is_blocked<P: Plant>(plant: &P, circuit: Circuit, end: End) -> bool
-    ensures { result ≡ waits_elsewhere (line (air plant.now) circuit.0).ends end.0 (ends_of (air plant.now) circuit.0) }
+    ensures { result ≡ waits_elsewhere (line (P.air plant.now) circuit.0).ends end.0 (ends_of (P.air plant.now) circuit.0) }
 {
     for k in 0..count_ends(plant, circuit) {
         if k != end.0 && is_waiting(plant, circuit, End(k)) {
@@ -45,7 +45,7 @@ pub fn may_put<P: Plant>(
     end: End,
     frame: &[u8],
 ) -> Result<usize, CallFault>
-    ensures { elim result [ Ok n ↦ Lost (air plant.now) circuit.0 end.0 frame.now n | Err x ↦ put_refusal (air plant.now) circuit.0 end.0 frame.now ≡ Some x ] }
+    ensures { elim result [ Ok n ↦ Lost (P.air plant.now) circuit.0 end.0 frame.now n | Err x ↦ put_refusal (P.air plant.now) circuit.0 end.0 frame.now ≡ Some x ] }
 {
     if frame.len() < 1 || frame.len() > LONGEST {
         return Err(CallFault::Frame(FrameFault::Size));
@@ -62,7 +62,7 @@ pub fn may_put<P: Plant>(
 
 // Whether nothing waits at any end of a circuit.
 pub fn is_drained<P: Plant>(plant: &P, circuit: Circuit) -> bool
-    ensures { Decides result (Drained (air plant.now) circuit.0) }
+    ensures { Decides result (Drained (P.air plant.now) circuit.0) }
 {
     for e in 0..count_ends(plant, circuit) {
         if is_waiting(plant, circuit, End(e)) {
@@ -74,7 +74,7 @@ pub fn is_drained<P: Plant>(plant: &P, circuit: Circuit) -> bool
 
 // Whether nothing waits in a plant.
 pub fn is_quiet<P: Plant>(plant: &P) -> bool
-    ensures { Decides result (Quiet (air plant.now)) }
+    ensures { Decides result (Quiet (P.air plant.now)) }
 {
     for c in 0..plant.circuits() {
         if !is_drained(plant, Circuit(c)) {
@@ -86,7 +86,7 @@ pub fn is_quiet<P: Plant>(plant: &P) -> bool
 
 // Has every end of a circuit take, and lets go what was taken: nothing waits there then, and no other circuit changes.
 pub fn drain<P: Plant>(plant: &mut P, circuit: Circuit)
-    ensures { Drains (air plant.old) (air plant.new) circuit.0 }
+    ensures { Drains (P.air plant.old) (P.air plant.new) circuit.0 }
 {
     for n in 0..count_ends(plant, circuit) {
         let mut buffer = [0; LONGEST];

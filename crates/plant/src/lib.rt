@@ -1,4 +1,6 @@
 // A plant is what carries frames: circuits with ends, at each of which a frame may wait.
+#![tactic(auto)]
+
 ghost use Rattle.std.specs.Prelude.{◌≡◌, ℕ, Bool, length, Option, Result};
 ghost use Rattle.fault.specs.declared.CallFault.{CallFault as Refusal};
 ghost use Rattle.plant.specs.Air.{Air, Frame, Lawful};

@@ -1,4 +1,6 @@
 // Puts and takes a few frames on a fader over a pair of a cable and a segment, and prints what each end got.
+#![tactic(auto)]
+
 use fault::CallFault;
 use plant::asking::{count_ends, is_quiet};
 use plant::{Circuit, End, LONGEST, Plant};

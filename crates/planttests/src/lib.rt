@@ -1,3 +1,5 @@
+#![tactic(auto)]
+
 // Tests of the plants, with values that were worked by hand.
 #[cfg(test)]
 mod tests {

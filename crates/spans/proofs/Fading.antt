@@ -1,10 +1,10 @@
 -- The number of a frame on its circuit decides whether it fades.
-use Rattle.std.proofs.Common.{◌≡◌, ℕ, zero, suc, ◌+◌, ◌/◌, ◌%◌, ◌^◌, ◌<◌, Bool, true, false, ◌&&◌, ltb, ◌≢◌, List, length, get_or, set, replicate, Option, sym, refl, ap, ◌∙◌, arith}
+use Rattle.std.proofs.Common.{◌≡◌, ℕ, ◌+◌, ◌%◌, ◌<◌, Bool, true, ltb, ◌≢◌, List, length, get_or, sym, refl, ap, ◌∙◌, arith}
 use Rattle.std.proofs.lemmas.List.{get_or-set_same, get_or-set_other, length-set, get_or-replicate}
 use Rattle.std.proofs.lemmas.Bool.{lt-ltb}
 use Rattle.plant.specs.Air.{Air, Frame}
 use Rattle.plant.specs.Calls.{PutOver, TakeOver}
-use Rattle.spans.specs.Fades.{bit_of, one_more, fades_next, next, FaderPut, FaderTake, Ran, FadesByNumber}
+use Rattle.spans.specs.Fades.{bit_of, one_more, fades_next, next, FaderPut, Ran, FadesByNumber}
 
 module _ {P : Type 0} (air : P → Air) (on_put : PutOver P) (on_take : TakeOver P) (patterns : List ℕ) where
   -- the patterns stay, and a circuit's count is its number of frames modulo 64

@@ -1,5 +1,5 @@
 -- The meaning of a fader: which frames fade.
-use Rattle.std.specs.Prelude.{◌≡◌, ℕ, ◌+◌, ◌/◌, ◌%◌, ◌^◌, ◌<◌, Bool, true, false, ◌&&◌, ◌≢◌, List, set, replicate, None, Option, ◌==◌, nat_lt, slice_index, slice_set}
+use Rattle.std.specs.Prelude.{◌≡◌, ℕ, ◌+◌, ◌/◌, ◌%◌, ◌^◌, ◌<◌, Bool, true, false, ◌&&◌, ◌≢◌, List, replicate, None, Option, ◌==◌, nat_lt, slice_index, slice_set}
 use Rattle.plant.specs.Air.{Air, Frame, ends_of}
 use Rattle.plant.specs.Calls.{PutOver, TakeOver, put_refusal, others}
 

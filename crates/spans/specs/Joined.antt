@@ -1,15 +1,14 @@
 -- Two plants in one.
-use Rattle.std.specs.Prelude.{◌≡◌, ℕ, zero, suc, ◌+◌, ◌-◌, ◌<◌, ◌≤◌, min, Bool, true, false, cond, ◌≢◌, List, [], ◌∷◌, ◌++◌, map, length, take, set, Some, None, Option, slice_set, refl}
-use Rattle.std.proofs.Common.{sym, ap, subst, ◌∙◌, ⊎_elim, arith}
-use Rattle.std.proofs.lemmas.List.{get_or_append_left, get_or-append_right, get_or-take, get_or_past, length-append, length-take, length-map, length-set, map-append, take-map, take_all, set-append_left, set-append_right}
+use Rattle.std.specs.Prelude.{◌≡◌, ℕ, zero, suc, ◌+◌, ◌-◌, ◌<◌, ◌≤◌, min, Bool, ◌≢◌, List, [], ◌∷◌, ◌++◌, length, take, set, Some, None, Option, slice_set, refl}
+use Rattle.std.proofs.Common.{sym, ap, ◌∙◌, ⊎_elim, arith}
+use Rattle.std.proofs.lemmas.List.{get_or_append_left, get_or-append_right, get_or-take, get_or_past, length-append, length-take, length-set, map-append, take-map, take_all, set-append_left, set-append_right}
 use Rattle.std.proofs.lemmas.Bool.{cases_lt}
-use Rattle.plant.specs.declared.Kind.{Kind}
 use Rattle.plant.specs.declared.Kind.TheVariants.{PointToPoint}
 use Rattle.plant.specs.Air.{Air, Frame, Line, Lawful, EndsFit, line, ends_of, waiting, shape}
-use Rattle.plant.specs.Calls.{Put, Take, put_refusal, take_refusal, kind_answer, ends_answer, waits_answer, cleared}
+use Rattle.plant.specs.Calls.{Put, Take, PutOver, TakeOver}
 use Rattle.plant.proofs.Lines.{same_circuits}
 use Rattle.std.proofs.lemmas.Bool.Decides.{nat_tests}
-use Rattle.spans.specs.Pairs.{joined, AtFirst, AtSecond, AtNeither}
+use Rattle.spans.specs.Pairs.{joined, PairPut, PairTake, AtFirst, AtSecond, AtNeither}
 
 -- the circuit that is not there
 abbrev absent : Line
@@ -197,3 +196,32 @@ take_second a b b' c d e got h k q p =
           (ap (λ x. a ++ x) (take_of_set b (12 - length a) d l ∙ ap (λ i. set (take (12 - length a) b) i l) q)
           ∙ sym (set-append_right a (take (12 - length a) b) (length a) c l refl h));
     }
+
+-- a put on a pair, and a take from it
+module _ {P Q : Type 0} (air : P → Air) (air' : Q → Air) where
+  pub pair_put_means :
+      (on_P : PutOver P) (on_Q : PutOver Q) →
+      ((p : P) → Lawful (air p)) →
+      ((p p' : P) (c e : ℕ) (f : Frame) (missed : ℕ → Bool) → on_P p p' c e f missed → Put (air p) (air p') c e f missed) →
+      ((q q' : Q) (c e : ℕ) (f : Frame) (missed : ℕ → Bool) → on_Q q q' c e f missed → Put (air' q) (air' q') c e f missed) →
+      (p p' : P) (q q' : Q) (c e : ℕ) (f : Frame) (missed : ℕ → Bool) →
+      PairPut air on_P on_Q p p' q q' c e f missed →
+      Put (joined (air p) (air' q)) (joined (air p') (air' q')) c e f missed
+  pair_put_means on_P on_Q lawful means means' p p' q q' c e f missed (PairPut.of_first h w s) =
+      rw s (put_first (air p) (air p') (air' q) c e f missed (lawful p).few h (means p p' c e f missed w))
+  pair_put_means on_P on_Q lawful means means' p p' q q' c e f missed (PairPut.of_second h l w s) =
+      let d = c - length (air p) in
+      rw s (put_second (air p) (air' q) (air' q') c d e f missed (lawful p).few h l refl (means' q q' d e f missed w))
+
+  pub pair_take_means :
+      (on_P : TakeOver P) (on_Q : TakeOver Q) →
+      ((p p' : P) (c e : ℕ) (got : Option Frame) → on_P p p' c e got → Take (air p) (air p') c e got) →
+      ((q q' : Q) (c e : ℕ) (got : Option Frame) → on_Q q q' c e got → Take (air' q) (air' q') c e got) →
+      (p p' : P) (q q' : Q) (c e : ℕ) (got : Option Frame) →
+      PairTake air on_P on_Q p p' q q' c e got →
+      Take (joined (air p) (air' q)) (joined (air p') (air' q')) c e got
+  pair_take_means on_P on_Q means means' p p' q q' c e got (PairTake.from_first h w s) =
+      rw s (take_first (air p) (air p') (air' q) c e got h (means p p' c e got w))
+  pair_take_means on_P on_Q means means' p p' q q' c e got (PairTake.from_second h l w s) =
+      let d = c - length (air p) in
+      rw s (take_second (air p) (air' q) (air' q') c d e got h l refl (means' q q' d e got w))

@@ -1,3 +1,4 @@
 pub mod Pairs
 pub mod Fades
 pub mod Joined
+pub mod Faded

@@ -1,5 +1,5 @@
 -- The meaning of a pair.
-use Rattle.std.specs.Prelude.{◌≡◌, ℕ, ◌-◌, ◌<◌, ◌≤◌, Bool, ltb, ◌++◌, length, take, Option, nat_lt}
+use Rattle.std.specs.Prelude.{◌≡◌, ℕ, ◌-◌, ◌<◌, ◌≤◌, Bool, ◌++◌, length, take, Option, nat_lt}
 use Rattle.plant.specs.Air.{Air, Frame, line, ends_of}
 use Rattle.spans.specs.declared.pair.Side.{Side}
 use Rattle.spans.specs.declared.pair.Side.TheVariants.{First, Second, Neither}
@@ -29,7 +29,7 @@ pub record AtSecond (a b : Air) (c d : ℕ) : Type 0 where
   pub above : length a ≤ c
   pub few : c < 12
   pub number : d ≡ c - length a
-  pub known : ltb c (length (joined a b)) ≡ nat_lt d (length b)
+  pub known : nat_lt c (length (joined a b)) ≡ nat_lt d (length b)
   pub same : line (joined a b) c ≡ line b d
 
 pub record AtNeither (a b : Air) (c : ℕ) : Type 0 where

@@ -1,9 +1,9 @@
 -- What waits in inboxes, one and several.
-use Rattle.std.specs.Prelude.{◌≡◌, ℕ, zero, suc, ◌+◌, ◌<◌, ◌≤◌, Bool, true, false, cond, ◌≢◌, List, [], ◌∷◌, map, length, take, is_some, Some, None, Option, ◌==◌, slice_index_or, slice_set, refl}
-use Rattle.std.proofs.Common.{sym, ap, ◌∙◌, ⊎_elim, arith, add-one}
-use Rattle.std.proofs.lemmas.List.{get_or-map, map-set, get_or-set_same, get_or-set_other, length-set, length-map, length-take-le, get_or-take}
+use Rattle.std.specs.Prelude.{◌≡◌, ℕ, zero, suc, ◌+◌, ◌<◌, ◌≤◌, Bool, true, false, cond, ◌≢◌, List, [], ◌∷◌, map, length, take, Some, None, Option, ◌==◌, slice_index_or, slice_set, refl}
+use Rattle.std.proofs.Common.{sym, ◌∙◌, ⊎_elim, arith, add-one}
+use Rattle.std.proofs.lemmas.List.{get_or-set_same, get_or-set_other, length-set, length-map, length-take-le, get_or-take}
 use Rattle.std.proofs.lemmas.Bool.{eqb-false, eq-eqb, ne_eqb, cases_eq}
-use Rattle.plant.specs.Air.{Frame, ends_of, waiting}
+use Rattle.plant.specs.Air.{Frame}
 use Rattle.plant.specs.Calls.{waits_elsewhere}
 use Rattle.wires.specs.Held.{held}
 use Rattle.wires.specs.Wires.{spread}

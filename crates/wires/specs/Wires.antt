@@ -4,7 +4,7 @@ use Rattle.fault.specs.declared.CallFault.{CallFault}
 use Rattle.fault.specs.declared.CallFault.TheVariants.{Unknown}
 use Rattle.plant.specs.declared.Kind.{Kind}
 use Rattle.plant.specs.declared.Kind.TheVariants.{PointToPoint, Broadcast}
-use Rattle.plant.specs.Air.{Air, Frame, Line, waiting}
+use Rattle.plant.specs.Air.{Air, Frame}
 use Rattle.plant.specs.Calls.{Put, Take, PutOver, TakeOver}
 use Rattle.wires.specs.Held.{held}
 use Rattle.wires.specs.declared.cable.Cable.{Cable}

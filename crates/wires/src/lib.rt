@@ -1,4 +1,6 @@
 // The plants of one circuit: cable and segment. Neither misses anything.
+#![tactic(auto)]
+
 pub mod cable;
 mod inbox;
 pub mod segment;

@@ -1,5 +1,6 @@
 ghost use Rattle.std.specs.Prelude.{◌≡◌, ℕ, ◌+◌, ◌<◌, ◌≤◌, Bool, true, false, length, replicate};
 ghost use Rattle.spans.specs.Fades.{bit_of, one_more, fades_next, next, FaderPut, FaderTake, FadesByNumber};
+ghost use Rattle.spans.specs.Faded.{fader_put_means};
 
 use super::Fader;
 use fault::CallFault;
@@ -24,7 +25,7 @@ impl<P: Plant> Fader<P> {
     // A fader that has accepted nothing yet. The patterns beyond the plant's circuits are not used.
     pub fn new(below: P, patterns: [u64; 12]) -> Fader<P>
         ensures made { (result.below ≡ below) × (result.patterns ≡ patterns) × (result.accepted ≡ replicate 12 0) }
-        ensures fades { FadesByNumber P.Plant.air P.Plant.put_over P.Plant.take_over patterns }
+        ensures fades { FadesByNumber P.air P.put_over P.take_over patterns }
     {
         Fader {
             below,
@@ -77,15 +78,17 @@ impl<P: Plant> Fader<P> {
 }
 
 impl<P: Plant> Plant for Fader<P> {
-    ghost air = { λ s. P.Plant.air s.below };
+    ghost air = { λ s. P.air s.below };
 
-    ghost put_over = { λ s t c e f missed. FaderPut P.Plant.air P.Plant.put_over s.below t.below s.patterns t.patterns s.accepted t.accepted c e f missed };
+    ghost put_over = { λ s t c e f missed. FaderPut P.air P.put_over s.below t.below s.patterns t.patterns s.accepted t.accepted c e f missed };
 
-    ghost take_over = { λ s t c e got. FaderTake P.Plant.take_over s.below t.below s.patterns t.patterns s.accepted t.accepted c e got };
+    ghost take_over = { λ s t c e got. FaderTake P.take_over s.below t.below s.patterns t.patterns s.accepted t.accepted c e got };
 
-    ghost lawful = { λ s. P.Plant.lawful s.below };
+    ghost lawful = { λ s. P.lawful s.below };
 
-    ghost take_means = { λ s t c e got h. P.Plant.take_means s.below t.below c e got h.below };
+    ghost put_means = { λ s t c e f missed h. fader_put_means P.air P.put_over P.put_means s.below t.below s.patterns t.patterns s.accepted t.accepted c e f missed h };
+
+    ghost take_means = { λ s t c e got h. P.take_means s.below t.below c e got h.below };
 
     fn circuits(&self) -> usize {
         self.below.circuits()

@@ -1,7 +1,7 @@
 ghost use Rattle.std.specs.Prelude.{◌≡◌, ℕ, ◌+◌, ◌-◌, ◌<◌, ◌≤◌, ◌++◌, length, Ok, Err};
 ghost use Rattle.fault.specs.declared.CallFault.TheVariants.{TooMany};
 ghost use Rattle.spans.specs.Pairs.{joined, Placed, PairPut, PairTake};
-ghost use Rattle.spans.specs.Joined.{joined_lawful};
+ghost use Rattle.spans.specs.Joined.{joined_lawful, pair_put_means, pair_take_means};
 
 use super::{Pair, Side, Unpaired};
 use fault::{CallFault, FrameFault};
@@ -13,7 +13,7 @@ const MOST: usize = 12;
 impl<P: Plant, Q: Plant> Pair<P, Q> {
     // Joins two plants, or hands both back where they have over 12 circuits together.
     pub fn new(first: P, second: Q) -> Result<Pair<P, Q>, Unpaired<P, Q>>
-        ensures { elim result [ Ok s ↦ (length (P.Plant.air first) + length (Q.Plant.air second) ≤ 12) × (s.first ≡ first) × (s.second ≡ second) × (joined (P.Plant.air first) (Q.Plant.air second) ≡ P.Plant.air first ++ Q.Plant.air second) | Err x ↦ (12 < length (P.Plant.air first) + length (Q.Plant.air second)) × (x.refusal ≡ TooMany) × (x.first ≡ first) × (x.second ≡ second) ] }
+        ensures { elim result [ Ok s ↦ (length (P.air first) + length (Q.air second) ≤ 12) × (s.first ≡ first) × (s.second ≡ second) × (joined (P.air first) (Q.air second) ≡ P.air first ++ Q.air second) | Err x ↦ (12 < length (P.air first) + length (Q.air second)) × (x.refusal ≡ TooMany) × (x.first ≡ first) × (x.second ≡ second) ] }
     {
         if first.circuits() + second.circuits() > MOST {
             return Err(Unpaired {
@@ -49,7 +49,7 @@ impl<P: Plant, Q: Plant> Pair<P, Q> {
 
     // How many circuits there are.
     fn total(&self) -> usize
-        ensures { result ≡ length (joined (P.Plant.air self.now.first) (Q.Plant.air self.now.second)) }
+        ensures { result ≡ length (joined (P.air self.now.first) (Q.air self.now.second)) }
     {
         let n = self.first.circuits() + self.second.circuits();
         if n > MOST { MOST } else { n }
@@ -57,7 +57,7 @@ impl<P: Plant, Q: Plant> Pair<P, Q> {
 
     // Where the circuit is.
     fn side(&self, circuit: Circuit) -> Side
-        ensures { Placed (P.Plant.air self.now.first) (Q.Plant.air self.now.second) circuit.0 result }
+        ensures { Placed (P.air self.now.first) (Q.air self.now.second) circuit.0 result }
     {
         let n = self.first.circuits();
         if circuit.0 < n {
@@ -71,13 +71,17 @@ impl<P: Plant, Q: Plant> Pair<P, Q> {
 }
 
 impl<P: Plant, Q: Plant> Plant for Pair<P, Q> {
-    ghost air = { λ s. joined (P.Plant.air s.first) (Q.Plant.air s.second) };
+    ghost air = { λ s. joined (P.air s.first) (Q.air s.second) };
 
-    ghost put_over = { λ s t c e f missed. PairPut P.Plant.air P.Plant.put_over Q.Plant.put_over s.first t.first s.second t.second c e f missed };
+    ghost put_over = { λ s t c e f missed. PairPut P.air P.put_over Q.put_over s.first t.first s.second t.second c e f missed };
 
-    ghost take_over = { λ s t c e got. PairTake P.Plant.air P.Plant.take_over Q.Plant.take_over s.first t.first s.second t.second c e got };
+    ghost take_over = { λ s t c e got. PairTake P.air P.take_over Q.take_over s.first t.first s.second t.second c e got };
 
-    ghost lawful = { λ s. joined_lawful (P.Plant.air s.first) (Q.Plant.air s.second) (P.Plant.lawful s.first) (Q.Plant.lawful s.second) };
+    ghost lawful = { λ s. joined_lawful (P.air s.first) (Q.air s.second) (P.lawful s.first) (Q.lawful s.second) };
+
+    ghost put_means = { λ s t c e f missed h. pair_put_means P.air Q.air P.put_over Q.put_over P.lawful P.put_means Q.put_means s.first t.first s.second t.second c e f missed h };
+
+    ghost take_means = { λ s t c e got h. pair_take_means P.air Q.air P.take_over Q.take_over P.take_means Q.take_means s.first t.first s.second t.second c e got h };
 
     fn circuits(&self) -> usize {
         self.total()

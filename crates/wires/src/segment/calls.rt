@@ -82,9 +82,9 @@ impl Plant for Segment {
         let e = size_told s in
         alone_lawful Broadcast (ListN.take s.size (map held s.boxes)) (omega (arith, s.some), omega (arith, s.few)) (all_fit s.boxes s.size) };
 
-    ghost put_means = { first_of (Prim.search rules, Prim.grind (arith, Self.row.coded.inj)) };
+    ghost put_means = { Prim.search rules };
 
-    ghost take_means = { first_of (Prim.search rules, Prim.grind (arith, Self.row.coded.inj)) };
+    ghost take_means = { Prim.search rules };
 
     fn circuits(&self) -> usize {
         1

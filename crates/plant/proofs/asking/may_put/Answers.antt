@@ -1,4 +1,4 @@
-use Rattle.std.proofs.Common.{◌≡◌, ◌-◌, sym, refl, ap, ◌∙◌, arith, rules}
+use Rattle.std.proofs.Common.{◌-◌, sym, refl, ap, ◌∙◌, arith, rules}
 use Rattle.plant.specs.Air.{ends_of}
 use Rattle.plant.specs.Calls.{others}
 use Rattle.plant.proofs.Blocked.{count-others}

@@ -1,4 +1,4 @@
-use Rattle.std.proofs.Common.{◌≡◌, length, get_or, set, sym, refl, ap, arith, rules}
+use Rattle.std.proofs.Common.{get_or, set, sym, refl, ap, arith}
 use Rattle.std.proofs.lemmas.List.{set_past}
 use Rattle.spans.specs.Fades.{next, one_more}
 use Rattle.spans.proofs.fader.Fader.count.Goals as goal

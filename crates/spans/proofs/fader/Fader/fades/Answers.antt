@@ -1,4 +1,4 @@
-use Rattle.std.proofs.Common.{ltb, get_or, sym, ◌∙◌}
+use Rattle.std.proofs.Common.{ltb, get_or, sym}
 use Rattle.std.proofs.lemmas.Bool.{and_left, le-ltb, lt-ltb}
 use Rattle.spans.specs.Fades.{fades_next, bit_of}
 use Rattle.spans.proofs.fader.Fader.fades.Goals as goal

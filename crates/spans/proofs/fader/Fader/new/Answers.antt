@@ -1,4 +1,4 @@
-use Rattle.std.proofs.Common.{refl, rules}
+use Rattle.std.proofs.Common.{refl}
 use Rattle.spans.proofs.Fading.{by_number}
 use Rattle.spans.proofs.fader.Fader.new.Goals as goal
 

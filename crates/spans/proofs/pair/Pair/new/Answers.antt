@@ -1,4 +1,4 @@
-use Rattle.std.proofs.Common.{refl, arith, rules}
+use Rattle.std.proofs.Common.{refl, arith}
 use Rattle.spans.specs.Joined.{joined_all}
 use Rattle.spans.proofs.pair.Pair.new.Goals as goal
 

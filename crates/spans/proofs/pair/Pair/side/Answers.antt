@@ -1,4 +1,4 @@
-use Rattle.std.proofs.Common.{◌≡◌, ◌-◌, ◌<◌, ◌≤◌, length, ap, arith}
+use Rattle.std.proofs.Common.{◌-◌, ap, arith}
 use Rattle.spans.specs.Joined.{at_first, at_second, at_neither}
 use Rattle.spans.proofs.pair.Pair.side.Goals as goal
 

@@ -3,15 +3,13 @@ use Rattle.std.proofs.lemmas.List.{take_at}
 use Rattle.std.proofs.lemmas.Bool.{cond-false, ne_eqb}
 use Rattle.wires.proofs.inbox.Inbox.fill.Goals as goal
 
-pub invariant-of-self : goal.invariant-of-self
-invariant-of-self c = (
-  search rules,
-  (
-    simp (length-append, length-drop)
-        (omega (arith, c.copy_from_slice.ensures.len, c.args.self.now.whole)),
-    tt,
-  ),
-)
+pub invariant_of-self : goal.invariant_of-self
+invariant_of-self c = record {
+  few = search rules;
+  whole =
+      simp (length-append, length-drop)
+      (omega (arith, c.copy_from_slice.ensures.len, c.args.self.now.whole));
+}
 
 pub returns : goal.returns
 returns c =

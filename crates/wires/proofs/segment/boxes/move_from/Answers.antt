@@ -1,4 +1,4 @@
-use Rattle.std.proofs.Common.{◌≡◌, map, length, get_or, set, None, sym, ap, ◌∙◌, arith, rules}
+use Rattle.std.proofs.Common.{map, set, None, sym, ap, ◌∙◌, arith}
 use Rattle.std.proofs.lemmas.List.{map-set, get_or-map, length-set}
 use Rattle.plant.specs.Calls.{moved, length_of}
 use Rattle.wires.specs.Held.{held}

@@ -1,10 +1,10 @@
-use Rattle.std.proofs.Common.{◌≡◌, ℕ, zero, suc, ◌<◌, ◌≤◌, cond, eqb, List, [], ◌∷◌, Some, None, Option, sym, refl, ap, ◌∙◌, arith, rules}
+use Rattle.std.proofs.Common.{◌≡◌, ℕ, zero, suc, ◌≤◌, cond, eqb, [], ◌∷◌, Some, Option, sym, refl, arith, rules}
 use Rattle.plant.specs.declared.Kind.TheVariants.{PointToPoint}
 use Rattle.plant.specs.Air.{Frame, ends_of}
-use Rattle.plant.specs.Calls.{none, put_refusal}
+use Rattle.plant.specs.Calls.{none}
 use Rattle.plant.proofs.Blocked.{count_none}
 use Rattle.wires.specs.Held.{held}
-use Rattle.wires.specs.Wires.{alone, spread, Delivered, cable_air}
+use Rattle.wires.specs.Wires.{spread, cable_air}
 use Rattle.wires.specs.Alone.{alone-spread}
 use Rattle.wires.proofs.cable.calls.CablePlant.put.Goals as goal
 

@@ -1,4 +1,4 @@
-use Rattle.std.proofs.Common.{sym, refl, arith, rules}
+use Rattle.std.proofs.Common.{sym, refl, rules}
 use Rattle.plant.specs.declared.Kind.TheVariants.{Broadcast}
 use Rattle.plant.specs.Air.{ends_of}
 use Rattle.plant.specs.Calls.{none}
