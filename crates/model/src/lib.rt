@@ -34,14 +34,14 @@ pub fn worked_segment() -> u8
 
 // Over every plant, a tick that answers a missed sum of 0 is clean: no attached end missed a frame.
 pub fn clean_ticks<P: Plant>(_plant: &P) -> u8
-    ensures { ZeroMissedIsClean air put_over take_over }
+    ensures { ZeroMissedIsClean P.air P.put_over P.take_over }
 {
     0
 }
 
 // Over every plant, in every run, no frame waits between calls.
 pub fn nothing_waits<P: Plant>(_plant: &P) -> u8
-    ensures { NothingWaits air put_over take_over }
+    ensures { NothingWaits P.air P.put_over P.take_over }
 {
     0
 }
@@ -62,7 +62,7 @@ pub fn psnp_parts() -> u8
 
 // Over every plant, in every run, the identifiers of every database rise strictly.
 pub fn databases_rise<P: Plant>(_plant: &P) -> u8
-    ensures { DatabasesRise air put_over take_over }
+    ensures { DatabasesRise P.air P.put_over P.take_over }
 {
     0
 }
