@@ -1,5 +1,5 @@
 -- Each call but a tick: the causes for which it is refused, of which the first in rank and place is answered, and what it does.
-use Rattle.std.specs.Prelude.{◌≡◌, ℕ, ◌+◌, Bool, true, false, cond, not, ◌&&◌, ◌||◌, List, [], ◌∷◌, ◌++◌, map, length, set, is_some, Some, None, Ok, Err, Option, Result, nat_eq, nat_le, slice_set}
+use Rattle.std.specs.Prelude.{◌≡◌, ℕ, ◌+◌, Bool, true, false, cond, not, ◌&&◌, ◌||◌, List, [], ◌∷◌, ◌++◌, map, length, is_some, Some, None, Ok, Err, Option, Result, nat_eq, nat_le, slice_set}
 use Rattle.fault.specs.declared.FrameFault.{FrameFault}
 use Rattle.fault.specs.declared.CallFault.{CallFault}
 use Rattle.fault.specs.declared.CallFault.TheVariants.{Unknown, Full, TooMany, Taken, Attached, Service, Inactive, NoNumber}

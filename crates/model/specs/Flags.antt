@@ -1,5 +1,5 @@
 -- Flags by port: SRM (to be sent) and SSN (to be reported) have one for each of a router's ports 0 to 7. Ports in service are written the same way.
-use Rattle.std.specs.Prelude.{ℕ, Bool, true, false, not, ◌&&◌, ◌||◌, List, [], ◌∷◌, set, replicate, slice_index_or, slice_set}
+use Rattle.std.specs.Prelude.{ℕ, Bool, true, false, not, ◌&&◌, ◌||◌, List, [], ◌∷◌, replicate, slice_index_or, slice_set}
 
 abbrev pub Flags : Type 0
 Flags = List Bool

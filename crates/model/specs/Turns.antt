@@ -1,6 +1,6 @@
 -- The second part of a tick: routers take turns by number, each over its ports in service, rising.
 -- At a port go out, in this order: LSPs, PSNPs, a CSNP set. After each put every other end of the circuit takes, and a router there hears the frame.
-use Rattle.std.specs.Prelude.{◌≡◌, ℕ, ◌+◌, ◌%◌, Bool, true, false, cond, not, ◌&&◌, ◌||◌, ◌≢◌, List, [], map, length, set, Some, None, Option, ◌==◌, slice_index_or, slice_set}
+use Rattle.std.specs.Prelude.{◌≡◌, ℕ, ◌+◌, ◌%◌, Bool, true, false, cond, not, ◌&&◌, ◌||◌, ◌≢◌, List, [], map, length, Some, None, Option, ◌==◌, slice_index_or, slice_set}
 use Rattle.fault.specs.declared.CallFault.{CallFault}
 use Rattle.frame.specs.Messages.{CsnpPdu}
 use Rattle.plant.specs.Air.{Air, Frame, ends_of}

@@ -1,5 +1,7 @@
 // The network as definitions in specs/: its state, each call, a tick, runs of calls, and what is promised of every run.
 // The functions' contracts are theorems about these definitions.
+#![tactic(auto)]
+
 ghost use Rattle.model.specs.Bench.{Benched};
 ghost use Rattle.model.specs.Clean.{ZeroMissedIsClean};
 ghost use Rattle.model.specs.DatabaseLaws.{DatabaseLaws};
