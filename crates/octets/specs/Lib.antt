@@ -1,4 +1,5 @@
 pub mod Octets
+pub mod Ranges
 pub mod Checks
 pub mod Fields
 pub mod Worked
