@@ -3,3 +3,4 @@ pub mod Ranges
 pub mod Checks
 pub mod Fields
 pub mod Worked
+pub mod Texts
