@@ -20,31 +20,25 @@ ghost use Rattle.flooding.specs.IssueBook.{KeepsTheBook};
 ghost use Rattle.flooding.specs.Ranks.{Ranks};
 
 // After 20 × (N + B) ticks, of which at most B missed a frame, all N routers hold what the owner holds.
-pub fn converges() -> u8
+pub fn converges()
     ensures { Converges }
-{
-    0
-}
+{}
 
 // The same by hops, and for windows of any length from 15 on.
-pub fn converges_by_hops() -> u8
+pub fn converges_by_hops()
     ensures { ConvergesByHops }
-{
-    0
-}
+{}
 
 // The argument by hops, over the window's length.
-pub fn reaches() -> u8
+pub fn reaches()
     ensures carries { WindowsCarry }
     ensures hops { ReachedByHops }
     ensures all { ReachedByAll }
     ensures twenty { ConvergesWhileHeld }
-{
-    0
-}
+{}
 
 // What holds in every run.
-pub fn is_consistent() -> u8
+pub fn is_consistent()
     ensures always { RunsAreConsistent }
     ensures issued { Issued }
     ensures ages { CopiesInStep }
@@ -54,18 +48,14 @@ pub fn is_consistent() -> u8
     ensures sent { SentIsAllowed }
     ensures unissued { UnissuedUnheld }
     ensures book { KeepsTheBook }
-{
-    0
-}
+{}
 
 // From the whole network to one identifier.
-pub fn projects() -> u8
+pub fn projects()
     ensures ticks { Projects }
     ensures ranges { RangesMentionOnce }
     ensures parts { PartsMentionOnce }
     ensures lengths { RisingNoLonger }
     ensures heard { HeardByRule }
     ensures ranks { Ranks }
-{
-    0
-}
+{}

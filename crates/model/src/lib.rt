@@ -14,57 +14,41 @@ ghost use Rattle.model.specs.WorkedSegment.{SegmentWorked};
 use plant::Plant;
 
 // The bench cases hold of the definitions.
-pub fn bench() -> u8
+pub fn bench()
     ensures { Benched }
-{
-    0
-}
+{}
 
 // Two routers and a cable: an issue comes to the other router, and its acknowledgement back.
-pub fn worked_cable() -> u8
+pub fn worked_cable()
     ensures { CableWorked }
-{
-    0
-}
+{}
 
 // Three routers on a segment: the designated router missed an issue, and its CSNP brings it.
-pub fn worked_segment() -> u8
+pub fn worked_segment()
     ensures { SegmentWorked }
-{
-    0
-}
+{}
 
 // Over every plant, a tick that answers a missed sum of 0 is clean: no attached end missed a frame.
-pub fn clean_ticks<P: Plant>(_plant: &P) -> u8
+pub fn clean_ticks<P: Plant>(_plant: &P)
     ensures { ZeroMissedIsClean P.air P.put_over P.take_over }
-{
-    0
-}
+{}
 
 // Over every plant, in every run, no frame waits between calls.
-pub fn nothing_waits<P: Plant>(_plant: &P) -> u8
+pub fn nothing_waits<P: Plant>(_plant: &P)
     ensures { NothingWaits P.air P.put_over P.take_over }
-{
-    0
-}
+{}
 
 // What placing, deleting and changing a record do to a database.
-pub fn database_laws() -> u8
+pub fn database_laws()
     ensures { DatabaseLaws }
-{
-    0
-}
+{}
 
 // The PSNPs of a turn report the records with SSN, 15 to a frame, the last 1 to 15.
-pub fn psnp_parts() -> u8
+pub fn psnp_parts()
     ensures { PsnpsOf15 }
-{
-    0
-}
+{}
 
 // Over every plant, in every run, the identifiers of every database rise strictly.
-pub fn databases_rise<P: Plant>(_plant: &P) -> u8
+pub fn databases_rise<P: Plant>(_plant: &P)
     ensures { DatabasesRise P.air P.put_over P.take_over }
-{
-    0
-}
+{}

@@ -12,9 +12,6 @@ use Rattle.octets.specs.Fields.{stands, after, Front, Whole, none, field, broken
 after_short : (xs : List ℕ) (n : ℕ) → length xs ≤ suc n → length (after xs) ≤ n
 after_short xs n h = simp length-drop (omega arith)
 
-pub after_less : (xs : List ℕ) → stands xs ≡ true → length (after xs) + 2 ≤ length xs
-after_less xs h = let l : 2 + get_or xs 1 0 ≤ length xs = grind (arith, nat_tests) in simp length-drop (omega arith)
-
 -- any bound that is long enough gives the same answer
 enough : (n m at : ℕ) (xs : List ℕ) → length xs ≤ n → length xs ≤ m → broken_within n at xs ≡ broken_within m at xs
 enough n m at [] h k = refl
@@ -79,8 +76,6 @@ whole_none at (field code value rest w) =
     let e : after xs ≡ rest = two_on (2 + length value) code (length value) (value ++ rest) refl ∙ drop_at value rest (length value) refl in
     broken_more at xs s ∙ ap (broken_field (at + (2 + length value))) e ∙ whole_none (at + (2 + length value)) w
 
-pub none_anywhere : (at at' : ℕ) (body : List ℕ) → broken_field at body ≡ None → broken_field at' body ≡ None
-none_anywhere at at' body h = whole_none at' (none_whole at body h)
 
 within_place : (n at : ℕ) (xs : List ℕ) (e : FrameFault) → broken_within n at xs ≡ Some e → (q : ℕ) × (e ≡ Field q) × (at ≤ q)
 within_place n at [] e h = let z : ◌≡◌ {A = ℕ} 0 1 = cc in absurd (omega arith)
