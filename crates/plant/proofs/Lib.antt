@@ -1,4 +1,5 @@
 pub mod Lines
+pub mod Upto
 pub mod Blocked
 pub mod Examples
 pub mod Drained
