@@ -1,8 +1,7 @@
 -- A frame that waits at another end, the refusal of a put, and a put that every other end misses.
-use Rattle.std.proofs.Common.{◌≡◌, ℕ, zero, suc, ◌+◌, ◌-◌, ◌<◌, ◌≤◌, Bool, true, false, cond, not, ◌||◌, eqb, ltb, leb, ◌≢◌, List, [], ◌∷◌, length, get_or, is_some, Some, None, ◌↔◌, IsTrue, Option, sym, refl, ap, ◌∙◌, ⊎_elim, arith}
+use Rattle.std.proofs.Common.{◌≡◌, ℕ, zero, suc, ◌+◌, ◌-◌, ◌<◌, ◌≤◌, Bool, true, false, cond, not, ◌||◌, eqb, ltb, leb, ◌≢◌, List, [], ◌∷◌, length, get_or, is_some, Some, None, ◌↔◌, IsTrue, Option, sym, refl, ap, ◌∙◌, ⊎_elim, add-one, arith}
 use Rattle.std.proofs.lemmas.Bool.{cases_eq, cond-true, cond-false, false≢true, or_parts, or_left, or_right, and_parts, not-true, ne_eqb, eqb-false, ltb-true, ltb-false}
 use Rattle.std.proofs.lemmas.Bool.Decides.{nat_tests}
-use Rattle.std.specs.Bool.{MatchBool}
 use Rattle.fault.specs.declared.FrameFault.TheVariants.{Size}
 use Rattle.fault.specs.declared.CallFault.TheVariants.{Unknown, Waiting}
 use Rattle.fault.specs.declared.CallFault.TheVariants as refusal
@@ -21,21 +20,16 @@ module _ (xs : List (Option Frame)) (e : ℕ) where
       (λ (q : k ≡ n → ⊥). or_right (cond (eqb n e) false (is_some (get_or xs n None))) (waits_elsewhere xs e n) (busy_at n k (omega arith) d h))
       (cases_eq k n)
 
-  pub idle_all : (n : ℕ) → ((k : ℕ) → k < n → k ≢ e → is_some (get_or xs k None) ≡ false) → waits_elsewhere xs e n ≡ false
-  idle_all zero h = refl
-  idle_all (suc n) h = go (eqb n e) refl (idle_all n (λ k l. h k (omega arith)))
+  pub idle_more :
+      (n : ℕ) →
+      waits_elsewhere xs e n ≡ false →
+      (n ≢ e → is_some (get_or xs n None) ≡ false) →
+      waits_elsewhere xs e (n + 1) ≡ false
+  idle_more n h i = rw add-one (go (eqb n e) refl)
     where
-      go : (b : Bool) → eqb n e ≡ b → waits_elsewhere xs e n ≡ false → waits_elsewhere xs e (suc n) ≡ false
-      go true p rest = rw p rest
-      go false p rest = rw (p, h n (omega arith) (eqb-false n e p)) rest
-
-  -- what `any` answers, where its test is whether a frame waits at another end
-  pub elsewhere_told :
-      (n : ℕ) (r : Bool) →
-      MatchBool r ((k : ℕ) × (k < n) × ((k ≢ e) × (is_some (get_or xs k None) ≡ true))) ((k : ℕ) → k < n → k ≢ e → is_some (get_or xs k None) ≡ false) →
-      r ≡ waits_elsewhere xs e n
-  elsewhere_told n true h = sym (busy_at n h.0 h.1 h.2.0 h.2.1)
-  elsewhere_told n false h = sym (idle_all n h)
+      go : (b : Bool) → eqb n e ≡ b → waits_elsewhere xs e (suc n) ≡ false
+      go true p = rw p h
+      go false p = rw (p, i (eqb-false n e p)) h
 
   pub idle_at : (n k : ℕ) → waits_elsewhere xs e n ≡ false → k < n → k ≢ e → get_or xs k None ≡ None
   idle_at n k h l d = go (get_or xs k None) refl

@@ -1,5 +1,4 @@
 pub mod Lines
-pub mod Upto
 pub mod Blocked
 pub mod Examples
 pub mod Drained

@@ -24,8 +24,12 @@ pub fn is_waiting<P: Plant>(plant: &P, end: End) -> bool
 pub fn is_blocked<P: Plant>(plant: &P, end: End) -> bool
     ensures { result ≡ waits_elsewhere (line (P.air plant.now) end.circuit.0).ends end.number (ends_of (P.air plant.now) end.circuit.0) }
 {
-    (0..count_ends(plant, end.circuit)).any(|k| k != end.number
-        && is_waiting(plant, end.circuit.end(k)))
+    for k in 0..count_ends(plant, end.circuit) {
+        if k != end.number && is_waiting(plant, end.circuit.end(k)) {
+            return true;
+        }
+    }
+    false
 }
 
 // The refusal that a put would answer, or else how many other ends the circuit has: so many miss a frame that none gets.
@@ -47,14 +51,24 @@ pub fn may_put<P: Plant>(plant: &P, end: End, frame: &[u8]) -> Result<usize, Cal
 pub fn is_drained<P: Plant>(plant: &P, circuit: Circuit) -> bool
     ensures { IsTrue result ↔ Drained (P.air plant.now) circuit.0 }
 {
-    (0..count_ends(plant, circuit)).all(|k| !is_waiting(plant, circuit.end(k)))
+    for k in 0..count_ends(plant, circuit) {
+        if is_waiting(plant, circuit.end(k)) {
+            return false;
+        }
+    }
+    true
 }
 
 // Whether nothing waits in a plant.
 pub fn is_quiet<P: Plant>(plant: &P) -> bool
     ensures { IsTrue result ↔ Quiet (P.air plant.now) }
 {
-    (0..plant.circuits()).all(|c| is_drained(plant, Circuit(c)))
+    for c in 0..plant.circuits() {
+        if !is_drained(plant, Circuit(c)) {
+            return false;
+        }
+    }
+    true
 }
 
 // Has every end of a circuit take, and lets go what was taken: nothing waits there then, and no other circuit changes.

@@ -1,21 +1,20 @@
-use Rattle.std.proofs.Common.{rules, arith, ◌≡◌, ◌∙◌, ap, ℕ, ◌≢◌, true, false, is_some, refl}
-use Rattle.std.proofs.lemmas.Iterator.{cases_from_any, YieldsList-from_range}
-use borrow.Author.Tests.{tests}
-use Rattle.plant.specs.Air.{waiting, line}
-use Rattle.plant.specs.Calls.{waits_elsewhere}
-use Rattle.plant.proofs.Upto.{any_upto}
-use Rattle.plant.proofs.Blocked.{elsewhere_told}
+use Rattle.std.proofs.Common.{sym, arith}
+use Rattle.plant.specs.Air.{line, ends_of}
+use Rattle.plant.proofs.Blocked.{busy_at, idle_more}
 use Rattle.plant.proofs.asking.is_blocked.Goals as goal
+use Rattle.plant.proofs.asking.is_blocked.Goals.{else-k-end-via-then-k-end+else-is_waiting, else-k-end-via-else-k-end}
 
-pub returns : goal.returns
-returns g c =
+pub returns-then-is_waiting : goal.returns-then-is_waiting
+returns-then-is_waiting g c =
     let a = g.P.Plant.air c.args.plant.now in
     let n = c.args.end.circuit.0 in
-    let e = c.args.end.number in
-    let ends = c.count_ends.result in
-    let Busy : ℕ → Type 0 = λ k. (k ≢ e) × (is_some (waiting a n k) ≡ true) in
-    let Idle : ℕ → Type 0 = λ k. k ≢ e → is_some (waiting a n k) ≡ false in
-    elsewhere_told (line a n).ends e ends c.any.result
-    (any_upto ends Busy Idle c.any.result
-    (cases_from_any _ _ c.any.result Busy Idle c.any.ensures.ran (YieldsList-from_range 0 ends ends refl (omega arith)) (λ x q k. search (rules, tests)) (λ x q k. search (rules, tests))))
-    ∙ ap (waits_elsewhere (line a n).ends e) c.count_ends.ensures
+    sym (busy_at (line a n).ends c.args.end.number (ends_of a n) c.loop-k.k (omega arith) c.if-k-end.true (rw c.end.ensures at (sym c.if-is_waiting.ensures)))
+
+pub loop-k-preserved : goal.loop-k-preserved
+loop-k-preserved g c =
+    let a = g.P.Plant.air c.args.plant.now in
+    idle_more (line a c.args.end.circuit.0).ends c.args.end.number c.loop-k.k c.loop-k.invariant
+    (λ d. elim c.else-k-end.branch [
+      | else-k-end-via-then-k-end+else-is_waiting w ↦ rw w.end.ensures at (sym w.if-is_waiting.ensures)
+      | else-k-end-via-else-k-end w ↦ absurd (d w.if-k-end.false)
+    ])

@@ -1,18 +1,17 @@
-use Rattle.std.proofs.Common.{rules, arith, ℕ, refl, ⊎_elim}
+use Rattle.std.proofs.Common.{ℕ, length, refl, ⊎_elim, arith, below_more}
 use Rattle.std.proofs.lemmas.Bool.{cases_lt}
-use Rattle.std.proofs.lemmas.Iterator.{cases_from_all, YieldsList-from_range}
-use borrow.Author.Tests.{tests}
-use Rattle.plant.specs.Air.{Drained, Quiet}
+use Rattle.plant.specs.Air.{Drained}
 use Rattle.plant.proofs.Lines.{no_end, no_ends}
-use Rattle.plant.proofs.Upto.{all_upto}
 use Rattle.plant.proofs.asking.is_quiet.Goals as goal
+
+pub loop-c-preserved : goal.loop-c-preserved
+loop-c-preserved g c =
+    below_more (λ (d : ℕ). Drained (g.P.Plant.air c.args.plant.now) d) c.loop-c.c c.loop-c.invariant
+    (c.is_drained.ensures.0 c.if-not-is_drained.false)
 
 pub returns : goal.returns
 returns g c =
-    let a = g.P.Plant.air c.args.plant.now in
-    let circuits = c.circuits.result in
-    let Empty : ℕ → Type 0 = λ k. Drained a k in
-    all_upto circuits Empty (Quiet a) c.all.result
-    (λ h d e. ⊎_elim (λ l. h d l e) (λ l. no_end a d e (omega (arith, no_ends a d (omega arith)))) (cases_lt d circuits))
-    (λ q. q)
-    (cases_from_all _ _ c.all.result Empty (λ k. Empty k → ⊥) c.all.ensures.ran (YieldsList-from_range 0 circuits circuits refl (omega arith)) (λ x q k. search (rules, tests)) (λ x q k. search (rules, tests)))
+    let a = g.P.Plant.air c.args.plant.now in (
+      λ _ d k. ⊎_elim (λ l. c.loop-c.invariant d (omega arith) k) (λ l. no_end a d k (omega (arith, no_ends a d l))) (cases_lt d (length a)),
+      λ _. refl,
+    )
