@@ -57,7 +57,7 @@ impl<P: Plant> Fader<P> {
     fn fades(&self, circuit: Circuit) -> bool
         ensures { result ≡ fades_next (patterns_of self.now.circuits) (accepted_of self.now.circuits) circuit.0 }
     {
-        self.circuits.get(circuit.0).is_some_and(|fade| fade.fades())
+        circuit.0 < self.circuits.len() && self.circuits[circuit.0].fades()
     }
 
     // One frame more is accepted on the circuit.
@@ -66,8 +66,8 @@ impl<P: Plant> Fader<P> {
         ensures patterns { patterns_of self.new.circuits ≡ patterns_of self.old.circuits }
         ensures accepted { accepted_of self.new.circuits ≡ next (accepted_of self.old.circuits) circuit.0 }
     {
-        if let Some(fade) = self.circuits.get_mut(circuit.0) {
-            fade.count();
+        if circuit.0 < self.circuits.len() {
+            self.circuits[circuit.0].count();
         }
     }
 }
