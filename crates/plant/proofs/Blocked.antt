@@ -1,5 +1,5 @@
 -- A frame that waits at another end, the refusal of a put, and a put that every other end misses.
-use Rattle.std.proofs.Common.{◌≡◌, ℕ, zero, suc, ◌+◌, ◌-◌, ◌<◌, ◌≤◌, Bool, true, false, cond, not, ◌||◌, eqb, ltb, leb, ◌≢◌, List, [], ◌∷◌, length, get_or, is_some, Some, None, Decides, Option, sym, refl, ap, ◌∙◌, ⊎_elim, add-one, arith}
+use Rattle.std.proofs.Common.{◌≡◌, ℕ, zero, suc, ◌+◌, ◌-◌, ◌<◌, ◌≤◌, Bool, true, false, cond, not, ◌||◌, eqb, ltb, leb, ◌≢◌, List, [], ◌∷◌, length, get_or, is_some, Some, None, ◌↔◌, IsTrue, Option, sym, refl, ap, ◌∙◌, ⊎_elim, add-one, arith}
 use Rattle.std.proofs.lemmas.Bool.{cases_eq, cond-true, cond-false, false≢true, or_parts, or_left, or_right, and_parts, not-true, ne_eqb, eqb-false, ltb-true, ltb-false}
 use Rattle.std.proofs.lemmas.Bool.Decides.{nat_tests}
 use Rattle.fault.specs.declared.FrameFault.TheVariants.{Size}
@@ -54,7 +54,7 @@ pub some_there : (o : Option Frame) → o ≢ None → is_some o ≡ true
 some_there None h = absurd (h refl)
 some_there (Some x) h = refl
 
-pub decides_blocked : (a : Air) (c e : ℕ) → Decides (waits_elsewhere (line a c).ends e (ends_of a c)) (Blocked a c e)
+pub decides_blocked : (a : Air) (c e : ℕ) → IsTrue (waits_elsewhere (line a c).ends e (ends_of a c)) ↔ Blocked a c e
 decides_blocked a c e = (
   busy_end (line a c).ends e (ends_of a c),
   λ w. busy_at (line a c).ends e (ends_of a c) w.0 w.1 w.2 (some_there (waiting a c w.0) w.3),

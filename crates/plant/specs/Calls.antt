@@ -1,5 +1,5 @@
 -- What the calls of a plant answer, when they refuse, and what they do.
-use Rattle.std.specs.Prelude.{◌≡◌, ℕ, zero, suc, ◌+◌, ◌<◌, Bool, true, false, cond, not, ◌&&◌, ◌||◌, ◌≢◌, List, [], ◌∷◌, ◌++◌, length, drop, is_some, Some, None, Ok, Err, Decides, Option, Result, ◌==◌, nat_le, nat_lt, slice_index_or, slice_set}
+use Rattle.std.specs.Prelude.{◌≡◌, ℕ, zero, suc, ◌+◌, ◌<◌, Bool, true, false, cond, not, ◌&&◌, ◌||◌, ◌≢◌, List, [], ◌∷◌, ◌++◌, length, drop, is_some, Some, None, Ok, Err, ◌↔◌, IsTrue, Option, Result, ◌==◌, nat_le, nat_lt, slice_index_or, slice_set}
 use Rattle.fault.specs.declared.FrameFault.TheVariants.{Size}
 use Rattle.fault.specs.declared.CallFault.{CallFault}
 use Rattle.fault.specs.declared.CallFault.TheVariants.{Unknown, Waiting}
@@ -58,7 +58,7 @@ take_causes a c e room =
 pub record RefusalsRight : Type 0 where
   pub put : (a : Air) (c e : ℕ) (f : Frame) → put_refusal a c e f ≡ first_refusal (put_causes a c e f)
   pub take : (a : Air) (c e room : ℕ) → take_refusal a c e room ≡ first_refusal (take_causes a c e room)
-  pub blocked : (a : Air) (c e : ℕ) → Decides (waits_elsewhere (line a c).ends e (ends_of a c)) (Blocked a c e)
+  pub blocked : (a : Air) (c e : ℕ) → IsTrue (waits_elsewhere (line a c).ends e (ends_of a c)) ↔ Blocked a c e
 
 -- a put that was allowed: no other circuit changes, nor what waits at the end that put, and at each other end the frame waits or is missed
 pub record Put (a b : Air) (c e : ℕ) (f : Frame) (missed : ℕ → Bool) : Type 0 where

@@ -1,37 +1,31 @@
 // Questions about any plant, asked by its own questions alone.
-ghost use Rattle.std.specs.Prelude.{◌≡◌, ℕ, ◌<◌, ◌≤◌, Bool, true, false, length, is_some, Some, None, Ok, Err, Decides};
+ghost use Rattle.std.specs.Prelude.{◌≡◌, ℕ, ◌<◌, ◌≤◌, ◌↔◌, IsTrue, Bool, true, false, length, is_some, Some, None, MatchResult};
 ghost use Rattle.plant.specs.Air.{line, ends_of, waiting, Drained, Quiet};
 ghost use Rattle.plant.specs.Calls.{waits_elsewhere, put_refusal, Lost, Drains, RefusalsRight};
 
-use crate::{Circuit, End, LONGEST, Plant};
-use fault::{CallFault, FrameFault};
+use crate::{Circuit, End, FrameOctets, LONGEST, Plant};
+use fault::CallFault;
 
 // How many ends a circuit has: none where there is no such circuit.
 pub fn count_ends<P: Plant>(plant: &P, circuit: Circuit) -> usize
     ensures { result ≡ ends_of (P.air plant.now) circuit.0 }
 {
-    match plant.ends(circuit) {
-        Ok(n) => n,
-        Err(_) => 0,
-    }
+    plant.ends(circuit).unwrap_or(0)
 }
 
 // Whether a frame waits at an end: none does where there is no such end.
-pub fn is_waiting<P: Plant>(plant: &P, circuit: Circuit, end: End) -> bool
-    ensures { result ≡ is_some (waiting (P.air plant.now) circuit.0 end.0) }
+pub fn is_waiting<P: Plant>(plant: &P, end: End) -> bool
+    ensures { result ≡ is_some (waiting (P.air plant.now) end.circuit.0 end.number) }
 {
-    match plant.waits(circuit, end) {
-        Ok(waits) => waits,
-        Err(_) => false,
-    }
+    plant.waits(end).unwrap_or(false)
 }
 
 // Whether a frame waits at another end of the circuit.
-pub fn is_blocked<P: Plant>(plant: &P, circuit: Circuit, end: End) -> bool
-    ensures { result ≡ waits_elsewhere (line (P.air plant.now) circuit.0).ends end.0 (ends_of (P.air plant.now) circuit.0) }
+pub fn is_blocked<P: Plant>(plant: &P, end: End) -> bool
+    ensures { result ≡ waits_elsewhere (line (P.air plant.now) end.circuit.0).ends end.number (ends_of (P.air plant.now) end.circuit.0) }
 {
-    for k in 0..count_ends(plant, circuit) {
-        if k != end.0 && is_waiting(plant, circuit, End(k)) {
+    for k in 0..count_ends(plant, end.circuit) {
+        if k != end.number && is_waiting(plant, end.circuit.end(k)) {
             return true;
         }
     }
@@ -39,22 +33,15 @@ pub fn is_blocked<P: Plant>(plant: &P, circuit: Circuit, end: End) -> bool
 }
 
 // The refusal that a put would answer, or else how many other ends the circuit has: so many miss a frame that none gets.
-pub fn may_put<P: Plant>(
-    plant: &P,
-    circuit: Circuit,
-    end: End,
-    frame: &[u8],
-) -> Result<usize, CallFault>
-    ensures { elim result [ Ok n ↦ Lost (P.air plant.now) circuit.0 end.0 frame.now n | Err x ↦ put_refusal (P.air plant.now) circuit.0 end.0 frame.now ≡ Some x ] }
+pub fn may_put<P: Plant>(plant: &P, end: End, frame: &[u8]) -> Result<usize, CallFault>
+    ensures { MatchResult result (λ n. Lost (P.air plant.now) end.circuit.0 end.number frame.now n) (λ x. put_refusal (P.air plant.now) end.circuit.0 end.number frame.now ≡ Some x) }
 {
-    if frame.len() < 1 || frame.len() > LONGEST {
-        return Err(CallFault::Frame(FrameFault::Size));
-    }
-    let ends = count_ends(plant, circuit);
-    if end.0 >= ends {
+    FrameOctets::new(frame)?;
+    let ends = count_ends(plant, end.circuit);
+    if end.number >= ends {
         return Err(CallFault::Unknown);
     }
-    if is_blocked(plant, circuit, end) {
+    if is_blocked(plant, end) {
         return Err(CallFault::Waiting);
     }
     Ok(ends - 1)
@@ -62,10 +49,10 @@ pub fn may_put<P: Plant>(
 
 // Whether nothing waits at any end of a circuit.
 pub fn is_drained<P: Plant>(plant: &P, circuit: Circuit) -> bool
-    ensures { Decides result (Drained (P.air plant.now) circuit.0) }
+    ensures { IsTrue result ↔ Drained (P.air plant.now) circuit.0 }
 {
-    for e in 0..count_ends(plant, circuit) {
-        if is_waiting(plant, circuit, End(e)) {
+    for k in 0..count_ends(plant, circuit) {
+        if is_waiting(plant, circuit.end(k)) {
             return false;
         }
     }
@@ -74,7 +61,7 @@ pub fn is_drained<P: Plant>(plant: &P, circuit: Circuit) -> bool
 
 // Whether nothing waits in a plant.
 pub fn is_quiet<P: Plant>(plant: &P) -> bool
-    ensures { Decides result (Quiet (P.air plant.now)) }
+    ensures { IsTrue result ↔ Quiet (P.air plant.now) }
 {
     for c in 0..plant.circuits() {
         if !is_drained(plant, Circuit(c)) {
@@ -88,9 +75,9 @@ pub fn is_quiet<P: Plant>(plant: &P) -> bool
 pub fn drain<P: Plant>(plant: &mut P, circuit: Circuit)
     ensures { Drains (P.air plant.old) (P.air plant.new) circuit.0 }
 {
-    for n in 0..count_ends(plant, circuit) {
+    for k in 0..count_ends(plant, circuit) {
         let mut buffer = [0; LONGEST];
-        let _ = plant.take(circuit, End(n), &mut buffer);
+        let _ = plant.take(circuit.end(k), &mut buffer);
     }
 }
 

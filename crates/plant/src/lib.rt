@@ -7,8 +7,10 @@ ghost use Rattle.plant.specs.Air.{Air, Frame, Lawful};
 ghost use Rattle.plant.specs.Calls.{Put, Take, Puts, Takes, kind_answer, ends_answer, waits_answer};
 
 pub mod asking;
+mod sizes;
 
 use fault::CallFault;
+pub use sizes::{FrameOctets, check_room};
 
 // A frame has 1 to this many octets, and a buffer to take one into at least so many.
 pub const LONGEST: usize = 275;
@@ -17,9 +19,24 @@ pub const LONGEST: usize = 275;
 #[derive(Clone, Copy, PartialEq, Eq, Debug)]
 pub struct Circuit(pub usize);
 
-// An end's number on its circuit, from 0.
+// An end of a circuit: the circuit, and the end's number on it, from 0.
 #[derive(Clone, Copy, PartialEq, Eq, Debug)]
-pub struct End(pub usize);
+pub struct End {
+    pub circuit: Circuit,
+    pub number: usize,
+}
+
+impl Circuit {
+    // The end of this circuit that has the number.
+    pub fn end(self, number: usize) -> End
+        ensures { result ≡ record { circuit = self; number = number } }
+    {
+        End {
+            circuit: self,
+            number,
+        }
+    }
+}
 
 // What a circuit is: point-to-point with 2 ends, or broadcast with 2 to 8.
 #[derive(Clone, Copy, PartialEq, Eq, Debug)]
@@ -52,21 +69,16 @@ pub trait Plant {
         ensures { result ≡ ends_answer (air self.now) circuit.0 };
 
     // Whether a frame waits at an end.
-    fn waits(&self, circuit: Circuit, end: End) -> Result<bool, CallFault>
-        ensures { result ≡ waits_answer (air self.now) circuit.0 end.0 };
+    fn waits(&self, end: End) -> Result<bool, CallFault>
+        ensures { result ≡ waits_answer (air self.now) end.circuit.0 end.number };
 
     // Puts a frame at an end: at each other end of the circuit it then waits, or is missed. Answers how many missed it.
-    fn put(&mut self, circuit: Circuit, end: End, frame: &[u8]) -> Result<usize, CallFault>
-        ensures puts { Puts air put_over self.old self.new circuit.0 end.0 frame.now result };
+    fn put(&mut self, end: End, frame: &[u8]) -> Result<usize, CallFault>
+        ensures puts { Puts air put_over self.old self.new end.circuit.0 end.number frame.now result };
 
     // Moves the frame that waits at an end to the buffer's front and answers its length, or says that none waits.
-    fn take(
-        &mut self,
-        circuit: Circuit,
-        end: End,
-        buffer: &mut [u8],
-    ) -> Result<Option<usize>, CallFault>
-        ensures takes { Takes air take_over self.old self.new circuit.0 end.0 buffer.old buffer.new result };
+    fn take(&mut self, end: End, buffer: &mut [u8]) -> Result<Option<usize>, CallFault>
+        ensures takes { Takes air take_over self.old self.new end.circuit.0 end.number buffer.old buffer.new result };
 
     ghost lawful: { (p : Self) → Lawful (air p) };
 

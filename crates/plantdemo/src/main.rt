@@ -23,31 +23,18 @@ fn span() -> Result<Fader<Pair<Cable, Segment>>, CallFault> {
 }
 
 // Prints what an end does with some octets.
-fn tell(
-    rt: &HostRuntime,
-    circuit: usize,
-    end: usize,
-    word: &str,
-    octets: &[u8],
-    n: usize,
-) -> io::Result<()> {
-    print!(rt; "circuit {circuit} end {end} {word}")?;
-    for octet in octets.iter().take(n) {
+fn tell(rt: &HostRuntime, end: End, word: &str, octets: &[u8]) -> io::Result<()> {
+    print!(rt; "circuit {} end {} {word}", end.circuit.0, end.number)?;
+    for octet in octets {
         print!(rt; " {octet:02X}")?;
     }
     Ok(())
 }
 
 // Puts a frame, and prints how many ends missed it or why it is refused.
-fn put<P: Plant>(
-    rt: &HostRuntime,
-    plant: &mut P,
-    circuit: usize,
-    end: usize,
-    frame: &[u8],
-) -> io::Result<()> {
-    tell(rt, circuit, end, "puts", frame, frame.len())?;
-    let (word, number) = match plant.put(Circuit(circuit), End(end), frame) {
+fn put<P: Plant>(rt: &HostRuntime, plant: &mut P, end: End, frame: &[u8]) -> io::Result<()> {
+    tell(rt, end, "puts", frame)?;
+    let (word, number) = match plant.put(end, frame) {
         Ok(missed) => ("missed", missed),
         Err(fault) => ("refused", usize::from(fault.number())),
     };
@@ -55,46 +42,71 @@ fn put<P: Plant>(
 }
 
 // Has an end take, and prints what it got.
-fn take<P: Plant>(rt: &HostRuntime, plant: &mut P, circuit: usize, end: usize) -> io::Result<()> {
+fn take<P: Plant>(rt: &HostRuntime, plant: &mut P, end: End) -> io::Result<()> {
     let mut buffer = [0; LONGEST];
-    let (word, n) = match plant.take(Circuit(circuit), End(end), &mut buffer) {
-        Ok(Some(n)) => ("got", n),
-        Ok(None) => ("got nothing", 0),
-        Err(_) => ("is not there", 0),
-    };
-    tell(rt, circuit, end, word, &buffer, n)?;
+    match plant.take(end, &mut buffer) {
+        Ok(Some(n)) => tell(rt, end, "got", &buffer[..n.min(LONGEST)])?,
+        Ok(None) => tell(rt, end, "got nothing", &[])?,
+        Err(_) => tell(rt, end, "is not there", &[])?,
+    }
     rt.println("")
 }
 
 // Has every end of a circuit take.
-fn drain<P: Plant>(rt: &HostRuntime, plant: &mut P, circuit: usize) -> io::Result<()> {
-    for end in 0..count_ends(plant, Circuit(circuit)) {
-        take(rt, plant, circuit, end)?;
+fn drain<P: Plant>(rt: &HostRuntime, plant: &mut P, circuit: Circuit) -> io::Result<()> {
+    for k in 0..count_ends(plant, circuit) {
+        take(rt, plant, circuit.end(k))?;
     }
     Ok(())
 }
 
-// Circuit, end and last octet of each frame that is put, and whether the circuit's ends take then.
-const PUTS: [(usize, usize, u8, bool); 7] = [
-    (0, 0, 1, false),
-    (0, 0, 2, true),
-    (0, 0, 3, false),
-    (0, 1, 4, true),
-    (1, 2, 5, false),
-    (1, 2, 6, true),
-    (2, 0, 7, false),
-];
+// The circuits of the plant, and one that is not there.
+const CABLE: Circuit = Circuit(0);
 
-fn run<P: Plant>(rt: &HostRuntime, plant: &mut P) -> io::Result<()> {
-    for (circuit, end, octet, all_take) in PUTS {
-        put(rt, plant, circuit, end, &[0x83, octet])?;
-        if all_take {
-            drain(rt, plant, circuit)?;
+const SEGMENT: Circuit = Circuit(1);
+
+const NOWHERE: Circuit = Circuit(2);
+
+// A frame to put: at which end, its last octet, and whether all the circuit's ends take then.
+#[derive(Clone, Copy)]
+struct Step {
+    end: End,
+    octet: u8,
+    all_take: bool,
+}
+
+impl Step {
+    fn new(end: End, octet: u8, all_take: bool) -> Step {
+        Step {
+            end,
+            octet,
+            all_take,
         }
     }
-    take(rt, plant, 1, 3)?;
-    let quiet = is_quiet(plant);
-    rt.println(if quiet {
+}
+
+// What is put, in turn.
+fn steps() -> [Step; 7] {
+    [
+        Step::new(CABLE.end(0), 1, false),
+        Step::new(CABLE.end(0), 2, true),
+        Step::new(CABLE.end(0), 3, false),
+        Step::new(CABLE.end(1), 4, true),
+        Step::new(SEGMENT.end(2), 5, false),
+        Step::new(SEGMENT.end(2), 6, true),
+        Step::new(NOWHERE.end(0), 7, false),
+    ]
+}
+
+fn run<P: Plant>(rt: &HostRuntime, plant: &mut P) -> io::Result<()> {
+    for step in steps() {
+        put(rt, plant, step.end, &[0x83, step.octet])?;
+        if step.all_take {
+            drain(rt, plant, step.end.circuit)?;
+        }
+    }
+    take(rt, plant, SEGMENT.end(3))?;
+    rt.println(if is_quiet(plant) {
         "nothing waits"
     } else {
         "a frame waits"

@@ -5,7 +5,7 @@
 mod tests {
     use fault::CallFault;
     use plant::asking::{drain, is_quiet};
-    use plant::{Circuit, End, Kind, Plant};
+    use plant::{Circuit, Kind, Plant};
     use spans::fader::Fader;
     use spans::pair::Pair;
     use std::process::Abort;
@@ -41,7 +41,7 @@ mod tests {
         let octets = [9; 276];
         for (circuit, end, length, refusal, missed) in table.iter().copied() {
             assert!(rt; length <= 276);
-            match plant.put(Circuit(circuit), End(end), &octets[0..length]) {
+            match plant.put(Circuit(circuit).end(end), &octets[0..length]) {
                 Ok(n) => assert!(rt; refusal == 0 && n == missed),
                 Err(fault) => assert!(rt; refusal == fault.number()),
             }
@@ -52,7 +52,7 @@ mod tests {
     fn takes<P: Plant>(rt: &impl Abort, plant: &mut P, table: &[(usize, usize, u8, usize)]) {
         for (circuit, end, refusal, length) in table.iter().copied() {
             let mut buffer = [5; 275];
-            match plant.take(Circuit(circuit), End(end), &mut buffer) {
+            match plant.take(Circuit(circuit).end(end), &mut buffer) {
                 Ok(got) => assert!(rt; refusal == 0 && got.unwrap_or(0) == length),
                 Err(fault) => assert!(rt; refusal == fault.number()),
             }
@@ -67,7 +67,7 @@ mod tests {
         table: &[bool],
     ) -> Result<(), Fail> {
         for (end, waits) in table.iter().copied().enumerate() {
-            assert!(rt; plant.waits(Circuit(circuit), End(end))? == waits);
+            assert!(rt; plant.waits(Circuit(circuit).end(end))? == waits);
         }
         Ok(())
     }
@@ -78,10 +78,10 @@ mod tests {
         patterns[0] = pattern;
         let mut fader = Fader::new(Cable::new(), patterns);
         for _ in 0..n {
-            let _ = fader.put(Circuit(0), End(0), &[7])?;
+            let _ = fader.put(Circuit(0).end(0), &[7])?;
             drain(&mut fader, Circuit(0));
         }
-        fader.put(Circuit(0), End(0), &[8])
+        fader.put(Circuit(0).end(0), &[8])
     }
 
     // By a table of a frame's number and how many miss it.
@@ -162,12 +162,12 @@ mod tests {
         let mut cable = Cable::new();
         let mut small = [5; 274];
         let mut buffer = [5; 275];
-        let _ = cable.put(Circuit(0), End(0), &[1, 2])?;
-        match cable.take(Circuit(9), End(1), &mut small) {
+        let _ = cable.put(Circuit(0).end(0), &[1, 2])?;
+        match cable.take(Circuit(9).end(1), &mut small) {
             Ok(_) => return Err(Fail::new("a buffer of 274 octets")),
             Err(fault) => assert!(rt; fault.number() == 4),
         }
-        assert!(rt; cable.take(Circuit(0), End(1), &mut buffer)?.unwrap_or(0) == 2);
+        assert!(rt; cable.take(Circuit(0).end(1), &mut buffer)?.unwrap_or(0) == 2);
         assert!(rt; buffer[0] == 1 && buffer[1] == 2 && buffer[2] == 5 && buffer[274] == 5);
         Ok(())
     }

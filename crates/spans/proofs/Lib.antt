@@ -1,1 +1,2 @@
 pub mod Fading
+pub mod Circuits

@@ -1,7 +1,15 @@
 -- The meaning of a fader: which frames fade.
-use Rattle.std.specs.Prelude.{◌≡◌, ℕ, ◌+◌, ◌/◌, ◌%◌, ◌^◌, ◌<◌, Bool, true, false, ◌&&◌, ◌≢◌, List, replicate, None, Option, ◌==◌, nat_lt, slice_index, slice_set}
+use Rattle.std.specs.Prelude.{◌≡◌, ℕ, ◌+◌, ◌/◌, ◌%◌, ◌^◌, ◌<◌, Bool, true, false, ◌&&◌, ◌≢◌, List, map, replicate, None, Option, ◌==◌, nat_lt, slice_index, slice_set}
 use Rattle.plant.specs.Air.{Air, Frame, ends_of}
+use Rattle.spans.specs.declared.fader.Fade.{Fade}
 use Rattle.plant.specs.Calls.{PutOver, TakeOver, put_refusal, others}
+
+-- each circuit's pattern, and how many frames were accepted on each circuit, modulo 64
+abbrev pub patterns_of : List Fade → List ℕ
+patterns_of fades = map (λ (f : Fade). f.pattern) fades
+
+abbrev pub accepted_of : List Fade → List ℕ
+accepted_of fades = map (λ (f : Fade). f.accepted) fades
 
 -- whether bit n modulo 64 of a pattern is set, 0 being the lowest
 abbrev pub bit_of : ℕ → ℕ → Bool

@@ -1,8 +1,10 @@
 -- The meaning of a pair.
-use Rattle.std.specs.Prelude.{◌≡◌, ℕ, ◌-◌, ◌<◌, ◌≤◌, Bool, ◌++◌, length, take, Option, nat_lt}
+use Rattle.std.specs.Prelude.{◌≡◌, ℕ, ◌-◌, ◌<◌, ◌≤◌, Bool, ◌++◌, length, take, Option, Result, Ok, Err, nat_lt}
+use Rattle.fault.specs.declared.CallFault.{CallFault}
+use Rattle.fault.specs.declared.CallFault.TheVariants.{Unknown}
 use Rattle.plant.specs.Air.{Air, Frame, line, ends_of}
 use Rattle.spans.specs.declared.pair.Side.{Side}
-use Rattle.spans.specs.declared.pair.Side.TheVariants.{First, Second, Neither}
+use Rattle.spans.specs.declared.pair.Side.TheVariants.{First, Second}
 use Rattle.plant.specs.Calls.{PutOver, TakeOver}
 
 -- the circuits of two plants, the second's numbered on, and 12 at most
@@ -36,7 +38,7 @@ pub record AtNeither (a b : Air) (c : ℕ) : Type 0 where
   pub above : length (joined a b) ≤ c
   pub gone : ends_of (joined a b) c ≡ 0
 
-abbrev pub Placed : Air → Air → ℕ → Side → Type 0
-Placed a b c First = AtFirst a b c
-Placed a b c (Second d) = AtSecond a b c d.0
-Placed a b c Neither = AtNeither a b c
+abbrev pub Placed : Air → Air → ℕ → Result Side CallFault → Type 0
+Placed a b c (Ok First) = AtFirst a b c
+Placed a b c (Ok (Second d)) = AtSecond a b c d.0
+Placed a b c (Err x) = (x ≡ Unknown) × AtNeither a b c

@@ -3,9 +3,15 @@
 #[derive(Drop)]
 pub struct Fader<P> {
     pub(crate) below: P,
-    pub(crate) patterns: [u64; 12],
-    // how many frames were accepted on each circuit, modulo 64
-    pub(crate) accepted: [u32; 12],
+    pub(crate) circuits: [Fade; 12],
+}
+
+// What fades on one circuit.
+#[derive(Clone, Copy)]
+pub(crate) struct Fade {
+    pub(crate) pattern: u64,
+    // how many frames were accepted, modulo 64
+    pub(crate) accepted: u32,
 }
 
 mod calls;

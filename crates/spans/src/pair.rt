@@ -16,12 +16,11 @@ pub struct Unpaired<P, Q> {
     pub second: Q,
 }
 
-// Where a circuit of a pair is: on the first plant, on the second under a number of its own, or nowhere.
+// Where a circuit of a pair is: on the first plant, or on the second under a number of its own.
 #[derive(Clone, Copy)]
 pub(crate) enum Side {
     First,
     Second(Circuit),
-    Neither,
 }
 
 mod calls;

@@ -1,1 +1,1 @@
-pub mod Segments
+pub mod Inboxes

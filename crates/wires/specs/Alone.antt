@@ -1,13 +1,17 @@
 -- A plant of one circuit.
-use Rattle.std.specs.Prelude.{◌≡◌, ℕ, zero, suc, ◌<◌, ◌≤◌, ◌≢◌, List, [], ◌∷◌, length, get_or, Some, None, Option, slice_index_or, refl}
+use Rattle.std.specs.Prelude.{◌≡◌, ℕ, zero, suc, ◌<◌, ◌≤◌, ◌≢◌, Bool, true, false, if◌then◌else◌, ◌==◌, List, [], ◌∷◌, length, get_or, Some, None, Option, slice_index_or, refl}
 use Rattle.std.proofs.Common.{ap, ◌∙◌, arith}
-use Rattle.std.proofs.lemmas.Bool.{false≢true}
+use Rattle.std.proofs.lemmas.Bool.{false≢true, eqb-true}
 use Rattle.plant.specs.declared.Kind.{Kind}
+use Rattle.plant.specs.declared.Kind.TheVariants.{PointToPoint, Broadcast}
 use Rattle.plant.specs.Air.{Frame, Lawful, EndsFit, line, ends_of, waiting}
 use Rattle.plant.specs.Calls.{put_refusal, none}
 use Rattle.plant.proofs.Blocked.{allowed}
-use Rattle.wires.specs.Wires.{alone, spread, Delivered}
-use Rattle.wires.specs.Boxes.{length-spread, spread_at, spread_here}
+use Rattle.std.proofs.lemmas.List.{length-map}
+use Rattle.wires.specs.Held.{held}
+use Rattle.wires.specs.declared.wire.Wire.{Wire}
+use Rattle.wires.specs.Wires.{alone, spread, Delivered, kind_of, wire_ends, wire_air}
+use Rattle.wires.specs.Boxes.{length-spread, spread_at, spread_here, all_fit}
 
 module _ (k : Kind) (xs : List (Option Frame)) where
   pub alone_lawful :
@@ -60,3 +64,16 @@ module _ (k : Kind) (xs : List (Option Frame)) where
       (ap length q ∙ length-spread xs (length xs) e f)
       (ap (λ zs. get_or zs e None) q ∙ spread_here xs (length xs) e f)
       (λ j l d. ap (λ zs. get_or zs j None) q ∙ spread_at xs (length xs) e f j l d (omega arith))
+
+-- how many ends fit a wire's kind
+ends_fit : (room n : ℕ) → 2 ≤ n → n ≤ 8 → n ≤ room → EndsFit (kind_of room) n
+ends_fit room n h k l = go (room == 2) refl
+  where
+    go : (b : Bool) → (room == 2) ≡ b → EndsFit (if b then PointToPoint else Broadcast) n
+    go true q = omega (arith, eqb-true room 2 q)
+    go false q = (h, k)
+
+pub wire_lawful : {room : ℕ} (s : Wire room) → Lawful (wire_air s)
+wire_lawful {room} s =
+    let n = length-map s.inboxes.items held in
+    alone_lawful (kind_of room) (wire_ends s) (rw n (ends_fit room (length s.inboxes.items) s.some s.few s.room)) (all_fit s.inboxes.items)

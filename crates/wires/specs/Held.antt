@@ -1,7 +1,8 @@
 -- What waits in an inbox.
-use Rattle.std.specs.Prelude.{cond, take, Some, None, Option, ◌==◌}
+use Rattle.std.specs.Prelude.{Some, None, Option}
 use Rattle.plant.specs.Air.{Frame}
-use Rattle.wires.specs.declared.inbox.Inbox.{Inbox}
+use Rattle.wires.specs.declared.inbox.Waiting.{Waiting}
 
-abbrev pub held : Inbox → Option Frame
-held b = cond (b.len == 0) None (Some (take b.len b.octets))
+abbrev pub held : Option Waiting → Option Frame
+held None = None
+held (Some w) = Some w.octets.items

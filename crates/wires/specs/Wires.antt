@@ -1,5 +1,5 @@
 -- The meanings of cable and segment.
-use Rattle.std.specs.Prelude.{◌≡◌, ℕ, zero, suc, Bool, false, cond, ◌||◌, List, [], ◌∷◌, map, take, Some, None, Option, ◌==◌, nat_lt, slice_set}
+use Rattle.std.specs.Prelude.{◌≡◌, ℕ, zero, suc, Bool, false, cond, if◌then◌else◌, ◌||◌, List, [], ◌∷◌, map, Some, None, Option, ◌==◌, nat_lt, slice_set}
 use Rattle.fault.specs.declared.CallFault.{CallFault}
 use Rattle.fault.specs.declared.CallFault.TheVariants.{Unknown}
 use Rattle.plant.specs.declared.Kind.{Kind}
@@ -7,8 +7,7 @@ use Rattle.plant.specs.declared.Kind.TheVariants.{PointToPoint, Broadcast}
 use Rattle.plant.specs.Air.{Air, Frame}
 use Rattle.plant.specs.Calls.{Put, Take, PutOver, TakeOver}
 use Rattle.wires.specs.Held.{held}
-use Rattle.wires.specs.declared.cable.Cable.{Cable}
-use Rattle.wires.specs.declared.segment.Segment.{Segment}
+use Rattle.wires.specs.declared.wire.Wire.{Wire}
 
 -- one circuit alone
 abbrev pub alone : Kind → List (Option Frame) → Air
@@ -19,27 +18,29 @@ pub record Delivered (a b : Air) (c e : ℕ) (f : Frame) (missed : ℕ → Bool)
   pub put : Put a b c e f missed
   pub whole : (k : ℕ) → missed k ≡ false
 
-abbrev pub cable_air : Cable → Air
-cable_air s = alone PointToPoint (held s.first ∷ held s.second ∷ [])
+-- what a wire with room for so many ends is
+abbrev pub kind_of : ℕ → Kind
+kind_of room = if room == 2 then PointToPoint else Broadcast
 
-abbrev pub cable_put : PutOver Cable
-cable_put p q c e f missed = Delivered (cable_air p) (cable_air q) c e f missed
+-- what waits at each end of a wire
+abbrev pub wire_ends : {room : ℕ} → Wire room → List (Option Frame)
+wire_ends s = map held s.inboxes.items
 
-abbrev pub cable_take : TakeOver Cable
-cable_take p q c e got = Take (cable_air p) (cable_air q) c e got
+abbrev pub wire_air : {room : ℕ} → Wire room → Air
+wire_air {room} s = alone (kind_of room) (wire_ends s)
 
--- what waits at each end of a segment
-abbrev pub segment_ends : Segment → List (Option Frame)
-segment_ends s = take s.size (map held s.boxes)
+abbrev pub wire_put : {room : ℕ} → PutOver (Wire room)
+wire_put p q c e f missed = Delivered (wire_air p) (wire_air q) c e f missed
 
-abbrev pub segment_air : Segment → Air
-segment_air s = alone Broadcast (segment_ends s)
+abbrev pub wire_take : {room : ℕ} → TakeOver (Wire room)
+wire_take p q c e got = Take (wire_air p) (wire_air q) c e got
 
-abbrev pub segment_put : PutOver Segment
-segment_put p q c e f missed = Delivered (segment_air p) (segment_air q) c e f missed
+-- a cable has room for 2 ends, a segment for 8
+abbrev pub cable_air : Wire 2 → Air
+cable_air s = wire_air s
 
-abbrev pub segment_take : TakeOver Segment
-segment_take p q c e got = Take (segment_air p) (segment_air q) c e got
+abbrev pub segment_air : Wire 8 → Air
+segment_air s = wire_air s
 
 -- a segment has 2 to 8 ends
 abbrev pub size_refusal : ℕ → Option CallFault

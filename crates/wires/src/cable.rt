@@ -1,10 +1,17 @@
-use crate::inbox::Inbox;
+ghost use Rattle.std.specs.Prelude.{◌≡◌, [], ◌∷◌, None};
+ghost use Rattle.plant.specs.declared.Kind.TheVariants.{PointToPoint};
+ghost use Rattle.wires.specs.Wires.{alone, cable_air};
+
+use crate::wire::Wire;
 
 // A cable is one point-to-point circuit; a frame put at one end waits at the other.
-#[derive(Drop)]
-pub struct Cable {
-    pub(crate) first: Inbox,
-    pub(crate) second: Inbox,
-}
+pub type Cable = Wire<2>;
 
-mod calls;
+impl Wire<2> {
+    // A cable on which nothing waits.
+    pub fn new() -> Cable
+        ensures { cable_air result ≡ alone PointToPoint (None ∷ None ∷ []) }
+    {
+        Wire::bare(2)
+    }
+}

@@ -4,3 +4,4 @@
 pub mod cable;
 mod inbox;
 pub mod segment;
+pub mod wire;

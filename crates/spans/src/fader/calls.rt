@@ -1,36 +1,40 @@
 ghost use Rattle.std.specs.Prelude.{◌≡◌, ℕ, ◌+◌, ◌<◌, ◌≤◌, Bool, true, false, length, replicate};
-ghost use Rattle.spans.specs.Fades.{bit_of, one_more, fades_next, next, FaderPut, FaderTake, FadesByNumber};
+ghost use Rattle.spans.specs.Fades.{bit_of, one_more, fades_next, next, patterns_of, accepted_of, FaderPut, FaderTake, FadesByNumber};
 ghost use Rattle.spans.specs.Faded.{fader_put_means};
 
-use super::Fader;
+use super::{Fade, Fader};
 use fault::CallFault;
 use plant::asking::may_put;
 use plant::{Circuit, End, Kind, Plant};
 
-// Whether bit n modulo 64 of a pattern is set.
-fn bit(pattern: u64, n: u32) -> bool
-    ensures { result ≡ bit_of pattern n }
-{
-    (pattern >> (n % 64)) % 2 == 1
-}
+impl Fade {
+    // Whether the next frame that is accepted fades: the bit of its number modulo 64 is set.
+    fn fades(&self) -> bool
+        ensures { result ≡ bit_of self.now.pattern self.now.accepted }
+    {
+        (self.pattern >> (self.accepted % 64)) % 2 == 1
+    }
 
-// One more, modulo 64.
-fn raised(n: u32) -> u32
-    ensures { result ≡ one_more n }
-{
-    (n % 64 + 1) % 64
+    // One frame more is accepted.
+    fn count(&mut self)
+        ensures { self.new ≡ record { pattern = self.old.pattern; accepted = one_more self.old.accepted } }
+    {
+        self.accepted = (self.accepted % 64 + 1) % 64;
+    }
 }
 
 impl<P: Plant> Fader<P> {
     // A fader that has accepted nothing yet. The patterns beyond the plant's circuits are not used.
     pub fn new(below: P, patterns: [u64; 12]) -> Fader<P>
-        ensures made { (result.below ≡ below) × (result.patterns ≡ patterns) × (result.accepted ≡ replicate 12 0) }
+        ensures made { (result.below ≡ below) × (patterns_of result.circuits ≡ patterns) × (accepted_of result.circuits ≡ replicate 12 0) }
         ensures fades { FadesByNumber P.air P.put_over P.take_over patterns }
     {
         Fader {
             below,
-            patterns,
-            accepted: [0; 12],
+            circuits: patterns.map(|pattern| Fade {
+                pattern,
+                accepted: 0,
+            }),
         }
     }
 
@@ -45,34 +49,25 @@ impl<P: Plant> Fader<P> {
     pub fn into_below(self) -> P
         ensures { result ≡ self.below }
     {
-        let Fader {
-            below,
-            patterns: _,
-            accepted: _,
-        } = self;
+        let Fader { below, circuits: _ } = self;
         below
     }
 
     // Whether the next frame that is accepted on the circuit fades.
     fn fades(&self, circuit: Circuit) -> bool
-        ensures { result ≡ fades_next self.now.patterns self.now.accepted circuit.0 }
+        ensures { result ≡ fades_next (patterns_of self.now.circuits) (accepted_of self.now.circuits) circuit.0 }
     {
-        let c = circuit.0;
-        if c >= 12 {
-            return false;
-        }
-        bit(self.patterns[c], self.accepted[c])
+        circuit.0 < self.circuits.len() && self.circuits[circuit.0].fades()
     }
 
     // One frame more is accepted on the circuit.
     fn count(&mut self, circuit: Circuit)
         ensures below { self.new.below ≡ self.old.below }
-        ensures patterns { self.new.patterns ≡ self.old.patterns }
-        ensures accepted { self.new.accepted ≡ next self.old.accepted circuit.0 }
+        ensures patterns { patterns_of self.new.circuits ≡ patterns_of self.old.circuits }
+        ensures accepted { accepted_of self.new.circuits ≡ next (accepted_of self.old.circuits) circuit.0 }
     {
-        let c = circuit.0;
-        if c < 12 {
-            self.accepted[c] = raised(self.accepted[c]);
+        if circuit.0 < self.circuits.len() {
+            self.circuits[circuit.0].count();
         }
     }
 }
@@ -80,13 +75,13 @@ impl<P: Plant> Fader<P> {
 impl<P: Plant> Plant for Fader<P> {
     ghost air = { λ s. P.air s.below };
 
-    ghost put_over = { λ s t c e f missed. FaderPut P.air P.put_over s.below t.below s.patterns t.patterns s.accepted t.accepted c e f missed };
+    ghost put_over = { λ s t c e f missed. FaderPut P.air P.put_over s.below t.below (patterns_of s.circuits) (patterns_of t.circuits) (accepted_of s.circuits) (accepted_of t.circuits) c e f missed };
 
-    ghost take_over = { λ s t c e got. FaderTake P.take_over s.below t.below s.patterns t.patterns s.accepted t.accepted c e got };
+    ghost take_over = { λ s t c e got. FaderTake P.take_over s.below t.below (patterns_of s.circuits) (patterns_of t.circuits) (accepted_of s.circuits) (accepted_of t.circuits) c e got };
 
     ghost lawful = { λ s. P.lawful s.below };
 
-    ghost put_means = { λ s t c e f missed h. fader_put_means P.air P.put_over P.put_means s.below t.below s.patterns t.patterns s.accepted t.accepted c e f missed h };
+    ghost put_means = { λ s t c e f missed h. fader_put_means P.air P.put_over P.put_means s.below t.below (patterns_of s.circuits) (patterns_of t.circuits) (accepted_of s.circuits) (accepted_of t.circuits) c e f missed h };
 
     ghost take_means = { λ s t c e got h. P.take_means s.below t.below c e got h.below };
 
@@ -102,36 +97,21 @@ impl<P: Plant> Plant for Fader<P> {
         self.below.ends(circuit)
     }
 
-    fn waits(&self, circuit: Circuit, end: End) -> Result<bool, CallFault> {
-        self.below.waits(circuit, end)
+    fn waits(&self, end: End) -> Result<bool, CallFault> {
+        self.below.waits(end)
     }
 
-    fn put(&mut self, circuit: Circuit, end: End, frame: &[u8]) -> Result<usize, CallFault> {
-        if self.fades(circuit) {
-            match may_put(&self.below, circuit, end, frame) {
-                Ok(missed) => {
-                    self.count(circuit);
-                    Ok(missed)
-                }
-                Err(refusal) => Err(refusal),
-            }
+    fn put(&mut self, end: End, frame: &[u8]) -> Result<usize, CallFault> {
+        let missed = if self.fades(end.circuit) {
+            may_put(&self.below, end, frame)?
         } else {
-            match self.below.put(circuit, end, frame) {
-                Ok(missed) => {
-                    self.count(circuit);
-                    Ok(missed)
-                }
-                Err(fault) => Err(fault),
-            }
-        }
+            self.below.put(end, frame)?
+        };
+        self.count(end.circuit);
+        Ok(missed)
     }
 
-    fn take(
-        &mut self,
-        circuit: Circuit,
-        end: End,
-        buffer: &mut [u8],
-    ) -> Result<Option<usize>, CallFault> {
-        self.below.take(circuit, end, buffer)
+    fn take(&mut self, end: End, buffer: &mut [u8]) -> Result<Option<usize>, CallFault> {
+        self.below.take(end, buffer)
     }
 }

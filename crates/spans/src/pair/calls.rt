@@ -1,11 +1,11 @@
-ghost use Rattle.std.specs.Prelude.{◌≡◌, ℕ, ◌+◌, ◌-◌, ◌<◌, ◌≤◌, ◌++◌, length, Ok, Err};
+ghost use Rattle.std.specs.Prelude.{◌≡◌, ℕ, ◌+◌, ◌-◌, ◌<◌, ◌≤◌, ◌++◌, length, MatchResult};
 ghost use Rattle.fault.specs.declared.CallFault.TheVariants.{TooMany};
 ghost use Rattle.spans.specs.Pairs.{joined, Placed, PairPut, PairTake};
 ghost use Rattle.spans.specs.Joined.{joined_lawful, pair_put_means, pair_take_means};
 
 use super::{Pair, Side, Unpaired};
-use fault::{CallFault, FrameFault};
-use plant::{Circuit, End, Kind, LONGEST, Plant};
+use fault::CallFault;
+use plant::{Circuit, End, FrameOctets, Kind, Plant, check_room};
 
 // A plant has at most so many circuits.
 const MOST: usize = 12;
@@ -13,7 +13,9 @@ const MOST: usize = 12;
 impl<P: Plant, Q: Plant> Pair<P, Q> {
     // Joins two plants, or hands both back where they have over 12 circuits together.
     pub fn new(first: P, second: Q) -> Result<Pair<P, Q>, Unpaired<P, Q>>
-        ensures { elim result [ Ok s ↦ (length (P.air first) + length (Q.air second) ≤ 12) × (s.first ≡ first) × (s.second ≡ second) × (joined (P.air first) (Q.air second) ≡ P.air first ++ Q.air second) | Err x ↦ (12 < length (P.air first) + length (Q.air second)) × (x.refusal ≡ TooMany) × (x.first ≡ first) × (x.second ≡ second) ] }
+        ensures { MatchResult result
+            (λ s. (length (P.air first) + length (Q.air second) ≤ 12) × (s.first ≡ first) × (s.second ≡ second) × (joined (P.air first) (Q.air second) ≡ P.air first ++ Q.air second))
+            (λ x. (12 < length (P.air first) + length (Q.air second)) × (x.refusal ≡ TooMany) × (x.first ≡ first) × (x.second ≡ second)) }
     {
         if first.circuits() + second.circuits() > MOST {
             return Err(Unpaired {
@@ -51,22 +53,21 @@ impl<P: Plant, Q: Plant> Pair<P, Q> {
     fn total(&self) -> usize
         ensures { result ≡ length (joined (P.air self.now.first) (Q.air self.now.second)) }
     {
-        let n = self.first.circuits() + self.second.circuits();
-        if n > MOST { MOST } else { n }
+        (self.first.circuits() + self.second.circuits()).min(MOST)
     }
 
     // Where the circuit is.
-    fn side(&self, circuit: Circuit) -> Side
+    fn side(&self, circuit: Circuit) -> Result<Side, CallFault>
         ensures { Placed (P.air self.now.first) (Q.air self.now.second) circuit.0 result }
     {
         let n = self.first.circuits();
         if circuit.0 < n {
-            return Side::First;
+            return Ok(Side::First);
         }
         if circuit.0 >= MOST {
-            return Side::Neither;
+            return Err(CallFault::Unknown);
         }
-        Side::Second(Circuit(circuit.0 - n))
+        Ok(Side::Second(Circuit(circuit.0 - n)))
     }
 }
 
@@ -88,53 +89,39 @@ impl<P: Plant, Q: Plant> Plant for Pair<P, Q> {
     }
 
     fn kind(&self, circuit: Circuit) -> Result<Kind, CallFault> {
-        match self.side(circuit) {
+        match self.side(circuit)? {
             Side::First => self.first.kind(circuit),
             Side::Second(c) => self.second.kind(c),
-            Side::Neither => Err(CallFault::Unknown),
         }
     }
 
     fn ends(&self, circuit: Circuit) -> Result<usize, CallFault> {
-        match self.side(circuit) {
+        match self.side(circuit)? {
             Side::First => self.first.ends(circuit),
             Side::Second(c) => self.second.ends(c),
-            Side::Neither => Err(CallFault::Unknown),
         }
     }
 
-    fn waits(&self, circuit: Circuit, end: End) -> Result<bool, CallFault> {
-        match self.side(circuit) {
-            Side::First => self.first.waits(circuit, end),
-            Side::Second(c) => self.second.waits(c, end),
-            Side::Neither => Err(CallFault::Unknown),
+    fn waits(&self, end: End) -> Result<bool, CallFault> {
+        match self.side(end.circuit)? {
+            Side::First => self.first.waits(end),
+            Side::Second(c) => self.second.waits(c.end(end.number)),
         }
     }
 
-    fn put(&mut self, circuit: Circuit, end: End, frame: &[u8]) -> Result<usize, CallFault> {
-        if frame.len() < 1 || frame.len() > LONGEST {
-            return Err(CallFault::Frame(FrameFault::Size));
-        }
-        match self.side(circuit) {
-            Side::First => self.first.put(circuit, end, frame),
-            Side::Second(c) => self.second.put(c, end, frame),
-            Side::Neither => Err(CallFault::Unknown),
+    fn put(&mut self, end: End, frame: &[u8]) -> Result<usize, CallFault> {
+        FrameOctets::new(frame)?;
+        match self.side(end.circuit)? {
+            Side::First => self.first.put(end, frame),
+            Side::Second(c) => self.second.put(c.end(end.number), frame),
         }
     }
 
-    fn take(
-        &mut self,
-        circuit: Circuit,
-        end: End,
-        buffer: &mut [u8],
-    ) -> Result<Option<usize>, CallFault> {
-        if buffer.len() < LONGEST {
-            return Err(CallFault::Frame(FrameFault::Size));
-        }
-        match self.side(circuit) {
-            Side::First => self.first.take(circuit, end, buffer),
-            Side::Second(c) => self.second.take(c, end, buffer),
-            Side::Neither => Err(CallFault::Unknown),
+    fn take(&mut self, end: End, buffer: &mut [u8]) -> Result<Option<usize>, CallFault> {
+        check_room(buffer)?;
+        match self.side(end.circuit)? {
+            Side::First => self.first.take(end, buffer),
+            Side::Second(c) => self.second.take(c.end(end.number), buffer),
         }
     }
 }

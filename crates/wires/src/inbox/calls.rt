@@ -1,50 +1,64 @@
-ghost use Rattle.std.specs.Prelude.{◌≡◌, ◌≤◌, length, is_some, Some, None};
-ghost use Rattle.plant.specs.Calls.{moved, length_of};
+ghost use Rattle.std.specs.Prelude.{◌≡◌, ℕ, ◌<◌, ◌≤◌, Bool, List, map, length, is_some, Some, None, slice_index_or, slice_set};
+ghost use Rattle.plant.specs.Calls.{waits_elsewhere, moved, length_of};
 ghost use Rattle.wires.specs.Held.{held};
+ghost use Rattle.wires.specs.Wires.{spread};
 
-use super::Inbox;
-use plant::LONGEST;
+use super::{Inbox, Waiting};
+use arrayvec::ArrayVec;
+use plant::FrameOctets;
 
-impl Inbox {
-    pub(crate) fn empty() -> Inbox
-        ensures { held result ≡ None }
+impl Waiting {
+    // The frame, to wait.
+    fn new(frame: FrameOctets) -> Waiting
+        ensures { result.octets.items ≡ frame.entry.octets.now }
     {
-        Inbox {
-            octets: [0; LONGEST],
-            len: 0,
-        }
+        let mut octets = ArrayVec::new();
+        let _ = octets.try_extend_from_slice(frame.octets());
+        Waiting { octets }
     }
 
-    pub(crate) fn waits(&self) -> bool
-        ensures { result ≡ is_some (held self.now) }
-    {
-        self.len > 0
-    }
-
-    // The frame waits here, in place of what did.
-    pub(crate) fn fill(&mut self, frame: &[u8])
-        requires some { 1 ≤ length frame.now }
-        requires few { length frame.now ≤ 275 }
-        ensures { held self.new ≡ Some frame.now }
-    {
-        let n = frame.len();
-        self.octets[0..n].copy_from_slice(frame);
-        self.len = n;
-    }
-
-    // Moves what waits to the buffer's front, and answers its length.
-    pub(crate) fn move_to(&mut self, buffer: &mut [u8]) -> Option<usize>
+    // Moves the frame to the buffer's front, and answers its length.
+    fn move_to(self, buffer: &mut [u8]) -> usize
         requires { 275 ≤ length buffer.old }
-        ensures answer { result ≡ length_of (held self.old) }
-        ensures buffer { buffer.new ≡ moved (held self.old) buffer.old }
-        ensures gone { held self.new ≡ None }
+        ensures answer { result ≡ length self.octets.items }
+        ensures buffer { buffer.new ≡ moved (Some self.octets.items) buffer.old }
     {
-        let n = self.len;
-        if n == 0 {
-            return None;
+        let n = self.octets.len();
+        buffer[..n].copy_from_slice(&self.octets);
+        n
+    }
+}
+
+// Whether a frame waits in an inbox other than that of one end.
+pub(crate) fn others_wait(inboxes: &[Inbox], end: usize) -> bool
+    ensures { result ≡ waits_elsewhere (map held inboxes.now) end (length inboxes.now) }
+{
+    inboxes
+        .iter()
+        .enumerate()
+        .any(|(k, inbox)| k != end && inbox.is_some())
+}
+
+// The frame then waits in every inbox but that of one end.
+pub(crate) fn fill_others(inboxes: &mut [Inbox], end: usize, frame: FrameOctets)
+    ensures { map held inboxes.new ≡ spread (map held inboxes.old) (length inboxes.old) end frame.entry.octets.now }
+{
+    for (k, inbox) in inboxes.iter_mut().enumerate() {
+        if k != end {
+            *inbox = Some(Waiting::new(frame));
         }
-        buffer[0..n].copy_from_slice(&self.octets[0..n]);
-        self.len = 0;
-        Some(n)
+    }
+}
+
+// Moves what waits in an inbox to the buffer's front, and answers its length.
+pub(crate) fn release(inbox: &mut Inbox, buffer: &mut [u8]) -> Option<usize>
+    requires { 275 ≤ length buffer.old }
+    ensures answer { result ≡ length_of (held inbox.old) }
+    ensures buffer { buffer.new ≡ moved (held inbox.old) buffer.old }
+    ensures after { held inbox.new ≡ None }
+{
+    match inbox.take() {
+        Some(waiting) => Some(waiting.move_to(buffer)),
+        None => None,
     }
 }

@@ -8,6 +8,6 @@ pub returns : goal.returns
 returns g c =
     let a = g.P.Plant.air c.args.plant.now in
     let n = c.args.circuit.0 in (
-      λ _ k. ⊎_elim (λ l. c.loop-e.invariant k (omega arith)) (λ l. no_end a n k l) (cases_lt k (ends_of a n)),
+      λ _ k. ⊎_elim (λ l. c.loop-k.invariant k (omega arith)) (λ l. no_end a n k l) (cases_lt k (ends_of a n)),
       λ _. refl,
     )

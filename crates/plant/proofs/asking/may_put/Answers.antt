@@ -7,8 +7,8 @@ use Rattle.plant.proofs.asking.may_put.Goals as goal
 pub returns : goal.returns
 returns g c =
     let a = g.P.Plant.air c.args.plant.now in
-    let n = c.args.circuit.0 in
-    let e = c.args.end.0 in
+    let n = c.args.end.circuit.0 in
+    let e = c.args.end.number in
     record {
       allowed = search rules;
       missed = others (ends_of a n) e;

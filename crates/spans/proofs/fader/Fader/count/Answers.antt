@@ -1,16 +1,15 @@
-use Rattle.std.proofs.Common.{get_or, set, sym, refl, ap, arith}
-use Rattle.std.proofs.lemmas.List.{set_past}
-use Rattle.spans.specs.Fades.{next, one_more}
+use Rattle.std.proofs.Common.{ap, arith}
+use Rattle.spans.specs.declared.fader.Fade.{Fade}
+use Rattle.spans.proofs.Circuits.{patterns_stay, accepted-counted, accepted_past}
 use Rattle.spans.proofs.fader.Fader.count.Goals as goal
 
-pub returns-then-c-lt12 : goal.returns-then-c-lt12
-unfolding next
-returns-then-c-lt12 g c = record { below = refl; patterns = refl; accepted = ap (set c.args.self.now.accepted c.args.circuit.0) c.raised.ensures }
+pub returns-then-circuit-lt12-clause-patterns : goal.returns-then-circuit-lt12-clause-patterns
+returns-then-circuit-lt12-clause-patterns g c =
+    patterns_stay c.args.self.now.circuits c.args.circuit.0 c.count.new.self (omega arith) (ap (λ (f : Fade). f.pattern) c.count.ensures)
 
-pub returns-else-c-lt12 : goal.returns-else-c-lt12
-unfolding next
-returns-else-c-lt12 g c = record {
-  below = refl;
-  patterns = refl;
-  accepted = sym (set_past c.args.self.now.accepted c.args.circuit.0 (one_more (get_or c.args.self.now.accepted c.args.circuit.0 0)) (omega arith));
-}
+pub returns-then-circuit-lt12-clause-accepted : goal.returns-then-circuit-lt12-clause-accepted
+returns-then-circuit-lt12-clause-accepted g c =
+    accepted-counted c.args.self.now.circuits c.args.circuit.0 c.count.new.self (omega arith) (ap (λ (f : Fade). f.accepted) c.count.ensures)
+
+pub returns-else-circuit-lt12-clause-accepted : goal.returns-else-circuit-lt12-clause-accepted
+returns-else-circuit-lt12-clause-accepted g c = accepted_past c.args.self.now.circuits c.args.circuit.0 (omega arith)

@@ -1,15 +1,16 @@
-use Rattle.std.proofs.Common.{ltb, get_or, sym}
-use Rattle.std.proofs.lemmas.Bool.{and_left, le-ltb, lt-ltb}
-use Rattle.spans.specs.Fades.{fades_next, bit_of}
+use Rattle.std.proofs.Common.{arith, refl}
+use Rattle.std.proofs.lemmas.Bool.{le-ltb, lt-ltb}
+use Rattle.spans.specs.Fades.{fades_next}
+use Rattle.spans.proofs.Circuits.{pattern_at, accepted_at}
 use Rattle.spans.proofs.fader.Fader.fades.Goals as goal
 
-pub returns-then-c-ge12 : goal.returns-then-c-ge12
+pub returns-then-circuit-lt12 : goal.returns-then-circuit-lt12
 unfolding fades_next
-returns-then-c-ge12 g c =
-    let s = c.args.self.now in
+returns-then-circuit-lt12 g c =
+    let fs = c.args.self.now.circuits in
     let n = c.args.circuit.0 in
-    sym (and_left (ltb n 12) (bit_of (get_or s.patterns n 0) (get_or s.accepted n 0)) (le-ltb n 12 c.if-c-ge12.true))
+    rw (lt-ltb n 12 c.if-circuit-lt12.true, pattern_at fs n (omega arith), accepted_at fs n (omega arith)) c.fades.ensures
 
-pub returns : goal.returns
+pub returns-else-circuit-lt12 : goal.returns-else-circuit-lt12
 unfolding fades_next
-returns g c = rw (lt-ltb c.args.circuit.0 12 c.if-c-ge12.false) c.bit.ensures
+returns-else-circuit-lt12 g c = rw (le-ltb c.args.circuit.0 12 c.if-circuit-lt12.false) refl
