@@ -5,7 +5,7 @@ ghost use Rattle.octets.specs.Octets.{part};
 ghost use Rattle.frame.specs.Reading.{entry_at};
 ghost use Rattle.frame.specs.Meaning.{entry_count, entry_said};
 
-use crate::cells::{check_octets_at, four_at, id_at, two_at};
+use crate::cells::{array_at, check_octets_at, four_at, two_at};
 use crate::message::{Entries, Entry};
 use crate::snp::entry_count;
 
@@ -46,7 +46,7 @@ fn read_entry(octets: &[u8], at: usize) -> Entry
 {
     Entry {
         lifetime: two_at(octets, at),
-        id: id_at(octets, at + 2),
+        id: array_at(octets, at + 2),
         number: four_at(octets, at + 10),
         check: check_octets_at(octets, at + 14),
     }

@@ -5,7 +5,7 @@ ghost use Rattle.octets.specs.Checks.{right};
 ghost use Rattle.frame.specs.Reading.{check_wrong, lsp_faults, lsp_in};
 ghost use Rattle.frame.specs.Meaning.{lsp_said};
 
-use crate::cells::{check_octets_at, four_at, id_at, two_at};
+use crate::cells::{array_at, check_octets_at, four_at, two_at};
 use crate::message::Lsp;
 use fault::FrameFault;
 use octets::{check_body, covered, is_right};
@@ -57,7 +57,7 @@ pub(crate) fn read_lsp(f: &[u8]) -> Result<Lsp<'_>, FrameFault>
     }
     Ok(Lsp {
         lifetime,
-        id: id_at(f, 12),
+        id: array_at(f, 12),
         number,
         check: check_octets_at(f, 24),
         flags: f[26],

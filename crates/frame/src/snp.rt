@@ -7,7 +7,7 @@ ghost use Rattle.frame.specs.declared.message.Message.TheVariants.{Csnp as SaysC
 ghost use Rattle.frame.specs.Meaning.{entry_count, entries_in, csnp_said, psnp_said, OwnParts};
 ghost use Rattle.frame.specs.Reading.{tail_right, field_lists, floor, entries_faults, csnp_faults, psnp_faults, csnp_in, psnp_in};
 
-use crate::cells::{id_at, source_at, two_at};
+use crate::cells::{array_at, two_at};
 use crate::lsp::from;
 use crate::message::{Csnp, Entries, Psnp};
 use fault::FrameFault;
@@ -67,7 +67,7 @@ pub(crate) fn check_entries(
         if two_at(octets, at) > 1200 {
             return Err(FrameFault::Lifetime(place));
         }
-        let id = id_at(octets, at + 2);
+        let id = array_at(octets, at + 2);
         if is_out(id, start, end, last) {
             return Err(FrameFault::Order(place + 2));
         }
@@ -89,15 +89,15 @@ pub(crate) fn read_csnp(f: &[u8]) -> Result<Csnp<'_>, FrameFault>
     ensures { MatchResult result (λ m. (first_fault (csnp_faults f.now) ≡ None) × (csnp_said m ≡ csnp_in f.now) × OwnParts f.now (SaysCsnp m)) (λ e. first_fault (csnp_faults f.now) ≡ Some e) }
 {
     let octets = read_tail(from(f, 33), 33)?;
-    let start = id_at(f, 17);
-    let end = id_at(f, 25);
+    let start = array_at(f, 17);
+    let end = array_at(f, 25);
     if before(end, start) {
         return Err(FrameFault::Range);
     }
     check_entries(octets, 35, start, end)?;
     let entries = Entries { octets, place: 35 };
     Ok(Csnp {
-        source: source_at(f, 10),
+        source: array_at(f, 10),
         start,
         end,
         entries,
@@ -113,7 +113,7 @@ pub(crate) fn read_psnp(f: &[u8]) -> Result<Psnp<'_>, FrameFault>
     check_entries(octets, 19, [0; 8], [0xff; 8])?;
     let entries = Entries { octets, place: 19 };
     Ok(Psnp {
-        source: source_at(f, 10),
+        source: array_at(f, 10),
         entries,
     })
 }

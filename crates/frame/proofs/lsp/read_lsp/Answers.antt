@@ -32,6 +32,6 @@ returns c =
     let f = c.args.f.now in (
       lsp_right f (body_clear f _ c.from-body.ensures c.in_ok-check_body.ensures.value) (omega arith) (λ z. omega arith)
           (sym c.check_is_wrong.ensures ∙ c.if-check_is_wrong.false),
-      made_lsp _ _ _ _ _ _ _ _ _ _ _ _ c.two_at-lifetime.ensures (ap value c.id_at.ensures) c.four_at-number.ensures
+      made_lsp _ _ _ _ _ _ _ _ _ _ _ _ c.two_at-lifetime.ensures (ap value c.array_at.ensures) c.four_at-number.ensures
           c.check_octets_at.ensures refl c.from-body.ensures,
     )

@@ -23,12 +23,12 @@ returns-then-is_out c =
     let n = entry_count xs in
     let low = floor (value c.args.start) c.loop-k.last in
     let high = value c.args.end in
-    let out : (ltb (value c.id_at-id.result) low || ltb high (value c.id_at-id.result)) ≡ true = sym c.is_out.ensures ∙ c.if-is_out.true in
+    let out : (ltb (value c.array_at-id.result) low || ltb high (value c.array_at-id.result)) ≡ true = sym c.is_out.ensures ∙ c.if-is_out.true in
     refused _ _ _
     (sym (at_first n c.args.place (value c.args.start) high xs)
     ∙ c.loop-k.invariant
     ∙ here_order n c.loop-k.k c.args.place low high xs (omega arith) (omega arith)
-    (ap (λ (i : List ℕ). ltb (value i) low || ltb high (value i)) (sym c.id_at-id.ensures) ∙ out))
+    (ap (λ (i : List ℕ). ltb (value i) low || ltb high (value i)) (sym c.array_at-id.ensures) ∙ out))
     (ap (λ (p : ℕ). Order (p + 16 * c.loop-k.k + 2)) c.from.ensures)
 
 pub loop-k-preserved : goal.loop-k-preserved
@@ -39,8 +39,8 @@ loop-k-preserved c =
     let high = value c.args.end in
     c.loop-k.invariant
     ∙ here_right n c.loop-k.k c.args.place low high xs (omega arith) (omega arith)
-    (ap (λ (i : List ℕ). ltb (value i) low || ltb high (value i)) (sym c.id_at-id.ensures) ∙ (sym c.is_out.ensures ∙ c.if-is_out.false))
-    ∙ ap (λ (i : List ℕ). remaining n (c.loop-k.k + 1) c.args.place (value i + 1) high xs) (sym c.id_at-id.ensures)
+    (ap (λ (i : List ℕ). ltb (value i) low || ltb high (value i)) (sym c.array_at-id.ensures) ∙ (sym c.is_out.ensures ∙ c.if-is_out.false))
+    ∙ ap (λ (i : List ℕ). remaining n (c.loop-k.k + 1) c.args.place (value i + 1) high xs) (sym c.array_at-id.ensures)
 
 pub returns : goal.returns
 returns c =

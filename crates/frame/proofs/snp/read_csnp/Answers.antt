@@ -18,8 +18,8 @@ pub returns-then-before : goal.returns-then-before
 returns-then-before c =
     let f = c.args.f.now in
     let l = listed_of 33 f c.from.result.now c.in_ok-octets.octets.now c.from.ensures c.in_ok-octets.ensures in
-    let a : value c.id_at-start.result ≡ field 17 8 f = ap value c.id_at-start.ensures in
-    let b : value c.id_at-end.result ≡ field 25 8 f = ap value c.id_at-end.ensures in
+    let a : value c.array_at-start.result ≡ field 17 8 f = ap value c.array_at-start.ensures in
+    let b : value c.array_at-end.result ≡ field 25 8 f = ap value c.array_at-end.ensures in
     let lt = ltb-true _ _ (sym c.if-before.ensures) in
     csnp_range_fault f l.0 (omega (arith, a, b, lt))
 
@@ -28,8 +28,8 @@ returns-in_err-check_entries c =
     let p = err_from_is_err_and c.from_residual-in_err-check_entries.result c.from_residual-in_err-check_entries.ensures.1 in
     let f = c.args.f.now in
     let l = listed_of 33 f c.from.result.now c.in_ok-octets.octets.now c.from.ensures c.in_ok-octets.ensures in
-    let a : value c.id_at-start.result ≡ field 17 8 f = ap value c.id_at-start.ensures in
-    let b : value c.id_at-end.result ≡ field 25 8 f = ap value c.id_at-end.ensures in
+    let a : value c.array_at-start.result ≡ field 17 8 f = ap value c.array_at-start.ensures in
+    let b : value c.array_at-end.result ≡ field 25 8 f = ap value c.array_at-end.ensures in
     let le = ltb-false _ _ (sym c.if-before.ensures) in
     rw (p.1, p.2)
     (csnp_entries f l.0 (omega (arith, a, b, le))
@@ -39,11 +39,11 @@ pub returns : goal.returns
 returns c =
     let f = c.args.f.now in
     let l = listed_of 33 f c.from.result.now c.in_ok-octets.octets.now c.from.ensures c.in_ok-octets.ensures in
-    let a : value c.id_at-start.result ≡ field 17 8 f = ap value c.id_at-start.ensures in
-    let b : value c.id_at-end.result ≡ field 25 8 f = ap value c.id_at-end.ensures in
+    let a : value c.array_at-start.result ≡ field 17 8 f = ap value c.array_at-start.ensures in
+    let b : value c.array_at-end.result ≡ field 25 8 f = ap value c.array_at-end.ensures in
     let le = ltb-false _ _ (sym c.if-before.ensures) in (
       csnp_entries f l.0 (omega (arith, a, b, le))
           ∙ (sym (same_first 35 _ _ _ _ _ _ a b l.1) ∙ unless_ok _ tt tt (sym c.in_ok-check_entries.ensures)),
-      made_csnp _ _ _ _ _ _ _ _ (ap value c.source_at.ensures) a b l.1,
+      made_csnp _ _ _ _ _ _ _ _ (ap value c.array_at.ensures) a b l.1,
       (own_part 33 f _ _ c.from.ensures c.in_ok-octets.ensures.1, refl),
     )

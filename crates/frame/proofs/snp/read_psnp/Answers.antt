@@ -29,6 +29,6 @@ returns c =
     let l = listed_of 17 f c.from.result.now c.in_ok-octets.octets.now c.from.ensures c.in_ok-octets.ensures in (
       psnp_entries f l.0
           ∙ (sym (same_first 19 _ _ _ _ _ _ refl refl l.1) ∙ unless_ok _ tt tt (sym c.in_ok-check_entries.ensures)),
-      made_psnp _ _ _ _ (ap value c.source_at.ensures) l.1,
+      made_psnp _ _ _ _ (ap value c.array_at.ensures) l.1,
       (own_part 17 f _ _ c.from.ensures c.in_ok-octets.ensures.1, refl),
     )
