@@ -40,7 +40,7 @@ impl<'a> Entries<'a> {
 }
 
 // The entry at an offset.
-fn read_entry(octets: &[u8], at: usize) -> Entry
+pub(crate) fn read_entry(octets: &[u8], at: usize) -> Entry
     requires { at + 16 ≤ length octets.now }
     ensures { entry_said result ≡ entry_at at octets.now }
 {

@@ -5,8 +5,9 @@ ghost use Rattle.octets.specs.Checks.{right};
 ghost use Rattle.frame.specs.Reading.{check_wrong, lsp_faults, lsp_in};
 ghost use Rattle.frame.specs.Meaning.{lsp_said};
 
-use crate::cells::{array_at, check_octets_at, four_at, two_at};
-use crate::message::Lsp;
+use crate::cells::two_at;
+use crate::entries::read_entry;
+use crate::message::{Entry, Lsp};
 use fault::FrameFault;
 use octets::{check_body, covered, is_right};
 
@@ -44,11 +45,15 @@ pub(crate) fn read_lsp(f: &[u8]) -> Result<Lsp<'_>, FrameFault>
 {
     let body = from(f, 27);
     check_body(body, 27)?;
-    let lifetime = two_at(f, 10);
+    let Entry {
+        lifetime,
+        id,
+        number,
+        check,
+    } = read_entry(f, 10);
     if lifetime > 1200 {
         return Err(FrameFault::Lifetime(10));
     }
-    let number = four_at(f, 20);
     if number == 0 {
         return Err(FrameFault::Number);
     }
@@ -57,9 +62,9 @@ pub(crate) fn read_lsp(f: &[u8]) -> Result<Lsp<'_>, FrameFault>
     }
     Ok(Lsp {
         lifetime,
-        id: array_at(f, 12),
+        id,
         number,
-        check: check_octets_at(f, 24),
+        check,
         flags: f[26],
         body,
     })

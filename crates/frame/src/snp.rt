@@ -29,13 +29,8 @@ pub(crate) fn read_tail(tail: &[u8], size: usize) -> Result<&[u8], FrameFault>
         return Ok(tail);
     }
     match read_field(tail, size) {
-        Ok((code, value, rest)) => {
-            if lists_entries(code, value, rest) {
-                return Ok(value);
-            }
-            Err(FrameFault::Tail(size))
-        }
-        Err(_) => Err(FrameFault::Tail(size)),
+        Ok((code, value, rest)) if lists_entries(code, value, rest) => Ok(value),
+        _ => Err(FrameFault::Tail(size)),
     }
 }
 
