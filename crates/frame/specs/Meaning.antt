@@ -4,6 +4,7 @@ use Rattle.fault.specs.declared.FrameFault.{FrameFault}
 use Rattle.octets.specs.Octets.{value}
 use Rattle.frame.specs.declared.message.Lsp.{Lsp as LspValue}
 use Rattle.frame.specs.declared.message.Entry.{Entry}
+use Rattle.frame.specs.declared.entries.EntryIter.{EntryIter}
 use Rattle.frame.specs.declared.message.Csnp.{Csnp as CsnpValue}
 use Rattle.frame.specs.declared.message.Psnp.{Psnp as PsnpValue}
 use Rattle.frame.specs.declared.message.Message.{Message}
@@ -25,9 +26,13 @@ entry_count octets = min (length octets / 16) 15
 abbrev pub entries_in : List ℕ → List SnpEntry
 entries_in octets = entries_at (entry_count octets) 0 octets
 
+-- the entries that an iterator has left
+abbrev pub entries_left : EntryIter → List SnpEntry
+entries_left s = entries_at (length s.left.now / 16) 0 s.left.now
+
 abbrev pub csnp_said : CsnpValue → CsnpPdu
 csnp_said m =
-    record { source = value m.source; start = value m.start; end = value m.end; entries = entries_in m.entries.octets.now }
+    record { source = value m.source; start = value m.range.start; end = value m.range.end; entries = entries_in m.entries.octets.now }
 
 abbrev pub psnp_said : PsnpValue → PsnpPdu
 psnp_said m = record { source = value m.source; entries = entries_in m.entries.octets.now }

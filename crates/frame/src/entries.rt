@@ -1,9 +1,10 @@
 // The entries of a summary that was read.
-ghost use Rattle.std.specs.Prelude.{◌≡◌, ◌+◌, ◌*◌, ◌<◌, ◌≤◌, length, if◌then◌else◌, Some, None, MatchOption, nat_lt};
+ghost use Rattle.std.specs.Prelude.{◌≡◌, ◌+◌, ◌*◌, ◌<◌, ◌≤◌, length, MatchOption, slice_get};
 ghost use Rattle.std.specs.Option.{option_map};
+ghost use Rattle.std.specs.Iterator.{YieldsFirstBy, item_count};
 ghost use Rattle.octets.specs.Octets.{part};
 ghost use Rattle.frame.specs.Reading.{entry_at};
-ghost use Rattle.frame.specs.Meaning.{entry_count, entry_said};
+ghost use Rattle.frame.specs.Meaning.{entry_count, entry_said, entries_in, entries_left};
 
 use crate::cells::{array_at, check_octets_at, four_at, two_at};
 use crate::message::{Entries, Entry};
@@ -30,12 +31,53 @@ impl<'a> Entries<'a> {
 
     // What the k-th says.
     pub fn entry(&self, k: usize) -> Option<Entry>
-        ensures { option_map entry_said result ≡ (if nat_lt k (entry_count self.now.octets.now) then Some (entry_at (16 * k) self.now.octets.now) else None) }
+        ensures { option_map entry_said result ≡ slice_get (entries_in self.now.octets.now) k }
     {
         if k >= entry_count(self.octets) {
             return None;
         }
         Some(read_entry(self.octets, 16 * k))
+    }
+
+    // The entries in turn.
+    pub fn iter(&self) -> EntryIter<'a>
+        ensures { entries_left result ≡ entries_in self.now.octets.now }
+    {
+        EntryIter {
+            left: &self.octets[..16 * self.count()],
+        }
+    }
+}
+
+impl<'a> IntoIterator for Entries<'a> {
+    type Item = Entry;
+
+    type IntoIter = EntryIter<'a>;
+
+    ghost into_iter_gives = { λ entries iter. entries_left iter ≡ entries_in entries.octets.now };
+
+    fn into_iter(self) -> EntryIter<'a> {
+        self.iter()
+    }
+}
+
+// The entries that are left, 16 octets each.
+#[derive(Clone, Debug, Drop)]
+pub struct EntryIter<'a> {
+    left: &'a [u8],
+}
+
+impl<'a> Iterator for EntryIter<'a> {
+    type Item = Entry;
+
+    ghost next_gives = { YieldsFirstBy entry_said entries_left };
+
+    ghost remaining = { item_count entries_left };
+
+    fn next(&mut self) -> Option<Entry> {
+        let (entry, rest) = self.left.split_first_chunk::<16>()?;
+        self.left = rest;
+        Some(read_entry(entry, 0))
     }
 }
 

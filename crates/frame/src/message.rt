@@ -1,5 +1,5 @@
 // What frames say.
-use octets::{CheckOctets, LspId, SourceId};
+use octets::{CheckOctets, IdRange, LspId, SourceId};
 
 // An LSP. Lifetime 0 says that the record is purged.
 #[derive(Clone, Copy)]
@@ -33,8 +33,7 @@ pub struct Entries<'a> {
 #[derive(Clone, Copy)]
 pub struct Csnp<'a> {
     pub source: SourceId,
-    pub start: LspId,
-    pub end: LspId,
+    pub range: IdRange,
     pub entries: Entries<'a>,
 }
 

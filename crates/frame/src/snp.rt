@@ -7,11 +7,11 @@ ghost use Rattle.frame.specs.declared.message.Message.TheVariants.{Csnp as SaysC
 ghost use Rattle.frame.specs.Meaning.{entry_count, entries_in, csnp_said, psnp_said, OwnParts};
 ghost use Rattle.frame.specs.Reading.{tail_right, field_lists, floor, entries_faults, csnp_faults, psnp_faults, csnp_in, psnp_in};
 
-use crate::cells::{array_at, two_at};
+use crate::cells::array_at;
 use crate::lsp::from;
 use crate::message::{Csnp, Entries, Psnp};
 use fault::FrameFault;
-use octets::{LspId, before, read_field};
+use octets::{IdRange, LspId, before, read_field};
 
 // Whether a field of this code, with this value and this rest behind it, holds 1 to 15 entries and is the last.
 fn lists_entries(code: u8, value: &[u8], rest: &[u8]) -> bool
@@ -34,39 +34,34 @@ pub(crate) fn read_tail(tail: &[u8], size: usize) -> Result<&[u8], FrameFault>
     }
 }
 
-// Whether an identifier is not over the last one, or under the start where there is none, or over the end.
-fn is_out(id: LspId, start: LspId, end: LspId, last: Option<LspId>) -> bool
-    ensures { result ≡ (nat_lt (value id) (floor (value start) last) || nat_lt (value end) (value id)) }
+// Whether an identifier is not over the last one, or out of the range.
+fn is_out(id: LspId, range: IdRange, last: Option<LspId>) -> bool
+    requires { value range.start ≤ floor (value range.start) last }
+    ensures { result ≡ (nat_lt (value id) (floor (value range.start) last) || nat_lt (value range.end) (value id)) }
 {
-    let rises = match last {
-        Some(last) => before(last, id),
-        None => !before(id, start),
+    let falls = match last {
+        Some(last) => !before(last, id),
+        None => false,
     };
-    !rises || before(end, id)
+    falls || !range.contains(id)
 }
 
-// Refuses entries of which one has a lifetime over 1,200, or an identifier that does not rise from start to end.
-// Their first octet stands at this place of the frame.
-pub(crate) fn check_entries(
-    octets: &[u8],
-    place: u16,
-    start: LspId,
-    end: LspId,
-) -> Result<(), FrameFault>
-    ensures { result ≡ unless (first_fault (entries_faults place (value start) (value end) (entries_in octets.now))) tt }
+// Refuses entries of which one has a lifetime over 1,200, or an identifier that does not rise within the range.
+pub(crate) fn check_entries(entries: Entries<'_>, range: IdRange) -> Result<(), FrameFault>
+    ensures { result ≡ unless (first_fault (entries_faults entries.entry.place (value range.start) (value range.end) (entries_in entries.entry.octets.now))) tt }
 {
+    let mut place = usize::from(entries.place);
     let mut last = None;
-    for k in 0..entry_count(octets) {
-        let at = 16 * k;
-        let place = usize::from(place) + at;
-        if two_at(octets, at) > 1200 {
+    for entry in entries {
+        if entry.lifetime > 1200 {
             return Err(FrameFault::Lifetime(place));
         }
-        let id = array_at(octets, at + 2);
-        if is_out(id, start, end, last) {
+        let id = entry.id;
+        if is_out(id, range, last) {
             return Err(FrameFault::Order(place + 2));
         }
         last = Some(id);
+        place += 16;
     }
     Ok(())
 }
@@ -86,15 +81,15 @@ pub(crate) fn read_csnp(f: &[u8]) -> Result<Csnp<'_>, FrameFault>
     let octets = read_tail(from(f, 33), 33)?;
     let start = array_at(f, 17);
     let end = array_at(f, 25);
-    if before(end, start) {
+    let range = IdRange { start, end };
+    if range.is_empty() {
         return Err(FrameFault::Range);
     }
-    check_entries(octets, 35, start, end)?;
     let entries = Entries { octets, place: 35 };
+    check_entries(entries, range)?;
     Ok(Csnp {
         source: array_at(f, 10),
-        start,
-        end,
+        range,
         entries,
     })
 }
@@ -105,8 +100,8 @@ pub(crate) fn read_psnp(f: &[u8]) -> Result<Psnp<'_>, FrameFault>
     ensures { MatchResult result (λ m. (first_fault (psnp_faults f.now) ≡ None) × (psnp_said m ≡ psnp_in f.now) × OwnParts f.now (SaysPsnp m)) (λ e. first_fault (psnp_faults f.now) ≡ Some e) }
 {
     let octets = read_tail(from(f, 17), 17)?;
-    check_entries(octets, 19, [0; 8], [0xff; 8])?;
     let entries = Entries { octets, place: 19 };
+    check_entries(entries, IdRange::ALL)?;
     Ok(Psnp {
         source: array_at(f, 10),
         entries,

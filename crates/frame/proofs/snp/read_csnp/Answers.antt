@@ -14,13 +14,13 @@ returns-in_err-octets c =
     let h = c.in_err-octets.ensures in
     rw (p.1, p.2, h.1) (csnp_tail_fault c.args.f.now (ap tail_right (sym c.from.ensures) ∙ h.0))
 
-pub returns-then-before : goal.returns-then-before
-returns-then-before c =
+pub returns-then-is_empty : goal.returns-then-is_empty
+returns-then-is_empty c =
     let f = c.args.f.now in
     let l = listed_of 33 f c.from.result.now c.in_ok-octets.octets.now c.from.ensures c.in_ok-octets.ensures in
     let a : value c.array_at-start.result ≡ field 17 8 f = ap value c.array_at-start.ensures in
     let b : value c.array_at-end.result ≡ field 25 8 f = ap value c.array_at-end.ensures in
-    let lt = ltb-true _ _ (sym c.if-before.ensures) in
+    let lt = ltb-true _ _ (sym c.if-is_empty.ensures) in
     csnp_range_fault f l.0 (omega (arith, a, b, lt))
 
 pub returns-in_err-check_entries : goal.returns-in_err-check_entries
@@ -30,7 +30,7 @@ returns-in_err-check_entries c =
     let l = listed_of 33 f c.from.result.now c.in_ok-octets.octets.now c.from.ensures c.in_ok-octets.ensures in
     let a : value c.array_at-start.result ≡ field 17 8 f = ap value c.array_at-start.ensures in
     let b : value c.array_at-end.result ≡ field 25 8 f = ap value c.array_at-end.ensures in
-    let le = ltb-false _ _ (sym c.if-before.ensures) in
+    let le = ltb-false _ _ (sym c.if-is_empty.ensures) in
     rw (p.1, p.2)
     (csnp_entries f l.0 (omega (arith, a, b, le))
     ∙ (sym (same_first 35 _ _ _ _ _ _ a b l.1) ∙ unless_err _ tt _ (sym c.in_err-check_entries.ensures)))
@@ -41,7 +41,7 @@ returns c =
     let l = listed_of 33 f c.from.result.now c.in_ok-octets.octets.now c.from.ensures c.in_ok-octets.ensures in
     let a : value c.array_at-start.result ≡ field 17 8 f = ap value c.array_at-start.ensures in
     let b : value c.array_at-end.result ≡ field 25 8 f = ap value c.array_at-end.ensures in
-    let le = ltb-false _ _ (sym c.if-before.ensures) in (
+    let le = ltb-false _ _ (sym c.if-is_empty.ensures) in (
       csnp_entries f l.0 (omega (arith, a, b, le))
           ∙ (sym (same_first 35 _ _ _ _ _ _ a b l.1) ∙ unless_ok _ tt tt (sym c.in_ok-check_entries.ensures)),
       made_csnp _ _ _ _ _ _ _ _ (ap value c.array_at.ensures) a b l.1,
