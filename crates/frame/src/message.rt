@@ -2,7 +2,7 @@
 use octets::{CheckOctets, IdRange, LspId, SourceId};
 
 // An LSP. Lifetime 0 says that the record is purged.
-#[derive(Clone, Copy)]
+#[derive(Clone, Copy, PartialEq, Eq, Debug)]
 pub struct Lsp<'a> {
     pub lifetime: u16,
     pub id: LspId,
@@ -24,26 +24,26 @@ pub struct Entry {
 }
 
 // The entries of a summary, 16 octets each and at most 15, as a part of the caller's frame with its place.
-#[derive(Clone, Copy)]
+#[derive(Clone, Copy, PartialEq, Eq, Debug)]
 pub struct Entries<'a> {
     pub(crate) octets: &'a [u8],
     pub(crate) place: u16,
 }
 
-#[derive(Clone, Copy)]
+#[derive(Clone, Copy, PartialEq, Eq, Debug)]
 pub struct Csnp<'a> {
     pub source: SourceId,
     pub range: IdRange,
     pub entries: Entries<'a>,
 }
 
-#[derive(Clone, Copy)]
+#[derive(Clone, Copy, PartialEq, Eq, Debug)]
 pub struct Psnp<'a> {
     pub source: SourceId,
     pub entries: Entries<'a>,
 }
 
-#[derive(Clone, Copy)]
+#[derive(Clone, Copy, PartialEq, Eq, Debug)]
 pub enum Message<'a> {
     Lsp(Lsp<'a>),
     Csnp(Csnp<'a>),

@@ -12,7 +12,7 @@ use crate::snp::{read_csnp, read_psnp};
 use fault::FrameFault;
 
 // A reader over the octets of a frame, whatever they are. What it hands out are parts of the caller's frame.
-#[derive(Clone, Copy)]
+#[derive(Clone, Copy, PartialEq, Eq, Debug)]
 pub struct FrameReader<'a> {
     frame: &'a [u8],
 }
