@@ -27,10 +27,7 @@ fn check_fixed(f: &[u8]) -> Result<(), FrameFault>
 fn length_is_off(f: &[u8], size: usize) -> bool
     ensures { result ≡ length_off size f.now }
 {
-    if f.len() < 10 {
-        return true;
-    }
-    usize::from(two_at(f, 8)) != f.len() || f.len() < size || f.len() > 275
+    f.len() < 10 || usize::from(two_at(f, 8)) != f.len() || f.len() < size || f.len() > 275
 }
 
 // The kind of a frame, or the first fault of its header.

@@ -8,7 +8,6 @@ ghost use Rattle.frame.specs.Meaning.{entry_count, entries_in, csnp_said, psnp_s
 ghost use Rattle.frame.specs.Reading.{tail_right, field_lists, floor, entries_faults, csnp_faults, psnp_faults, csnp_in, psnp_in};
 
 use crate::cells::array_at;
-use crate::lsp::from;
 use crate::message::{Csnp, Entries, Psnp};
 use fault::FrameFault;
 use octets::{IdRange, LspId, before, read_field};
@@ -78,7 +77,8 @@ pub(crate) fn read_csnp(f: &[u8]) -> Result<Csnp<'_>, FrameFault>
     requires { 33 ≤ length f.now }
     ensures { MatchResult result (λ m. (first_fault (csnp_faults f.now) ≡ None) × (csnp_said m ≡ csnp_in f.now) × OwnParts f.now (SaysCsnp m)) (λ e. first_fault (csnp_faults f.now) ≡ Some e) }
 {
-    let octets = read_tail(from(f, 33), 33)?;
+    let (_, tail) = f.split_at(33);
+    let octets = read_tail(tail, 33)?;
     let start = array_at(f, 17);
     let end = array_at(f, 25);
     let range = IdRange { start, end };
@@ -99,7 +99,8 @@ pub(crate) fn read_psnp(f: &[u8]) -> Result<Psnp<'_>, FrameFault>
     requires { 17 ≤ length f.now }
     ensures { MatchResult result (λ m. (first_fault (psnp_faults f.now) ≡ None) × (psnp_said m ≡ psnp_in f.now) × OwnParts f.now (SaysPsnp m)) (λ e. first_fault (psnp_faults f.now) ≡ Some e) }
 {
-    let octets = read_tail(from(f, 17), 17)?;
+    let (_, tail) = f.split_at(17);
+    let octets = read_tail(tail, 17)?;
     let entries = Entries { octets, place: 19 };
     check_entries(entries, IdRange::ALL)?;
     Ok(Psnp {

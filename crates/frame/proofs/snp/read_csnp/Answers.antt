@@ -12,12 +12,12 @@ pub returns-in_err-octets : goal.returns-in_err-octets
 returns-in_err-octets c =
     let p = err_from_is_err_and c.from_residual.result c.from_residual.ensures.1 in
     let h = c.in_err-octets.ensures in
-    rw (p.1, p.2, h.1) (csnp_tail_fault c.args.f.now (ap tail_right (sym c.from.ensures) ∙ h.0))
+    rw (p.1, p.2, h.1) (csnp_tail_fault c.args.f.now (ap tail_right (sym c.split_at.ensures.back) ∙ h.0))
 
 pub returns-then-is_empty : goal.returns-then-is_empty
 returns-then-is_empty c =
     let f = c.args.f.now in
-    let l = listed_of 33 f c.from.result.now c.in_ok-octets.octets.now c.from.ensures c.in_ok-octets.ensures in
+    let l = listed_of 33 f c.split_at.result.1.now c.in_ok-octets.octets.now c.split_at.ensures.back c.in_ok-octets.ensures in
     let a : value c.array_at-start.result ≡ field 17 8 f = ap value c.array_at-start.ensures in
     let b : value c.array_at-end.result ≡ field 25 8 f = ap value c.array_at-end.ensures in
     let lt = ltb-true _ _ (sym c.if-is_empty.ensures) in
@@ -27,7 +27,7 @@ pub returns-in_err-check_entries : goal.returns-in_err-check_entries
 returns-in_err-check_entries c =
     let p = err_from_is_err_and c.from_residual-in_err-check_entries.result c.from_residual-in_err-check_entries.ensures.1 in
     let f = c.args.f.now in
-    let l = listed_of 33 f c.from.result.now c.in_ok-octets.octets.now c.from.ensures c.in_ok-octets.ensures in
+    let l = listed_of 33 f c.split_at.result.1.now c.in_ok-octets.octets.now c.split_at.ensures.back c.in_ok-octets.ensures in
     let a : value c.array_at-start.result ≡ field 17 8 f = ap value c.array_at-start.ensures in
     let b : value c.array_at-end.result ≡ field 25 8 f = ap value c.array_at-end.ensures in
     let le = ltb-false _ _ (sym c.if-is_empty.ensures) in
@@ -38,12 +38,12 @@ returns-in_err-check_entries c =
 pub returns : goal.returns
 returns c =
     let f = c.args.f.now in
-    let l = listed_of 33 f c.from.result.now c.in_ok-octets.octets.now c.from.ensures c.in_ok-octets.ensures in
+    let l = listed_of 33 f c.split_at.result.1.now c.in_ok-octets.octets.now c.split_at.ensures.back c.in_ok-octets.ensures in
     let a : value c.array_at-start.result ≡ field 17 8 f = ap value c.array_at-start.ensures in
     let b : value c.array_at-end.result ≡ field 25 8 f = ap value c.array_at-end.ensures in
     let le = ltb-false _ _ (sym c.if-is_empty.ensures) in (
       csnp_entries f l.0 (omega (arith, a, b, le))
           ∙ (sym (same_first 35 _ _ _ _ _ _ a b l.1) ∙ unless_ok _ tt tt (sym c.in_ok-check_entries.ensures)),
       made_csnp _ _ _ _ _ _ _ _ (ap value c.array_at.ensures) a b l.1,
-      (own_part 33 f _ _ c.from.ensures c.in_ok-octets.ensures.1, refl),
+      (own_part 33 f _ _ c.split_at.ensures.back c.in_ok-octets.ensures.1, refl),
     )

@@ -12,13 +12,13 @@ pub returns-in_err-octets : goal.returns-in_err-octets
 returns-in_err-octets c =
     let p = err_from_is_err_and c.from_residual.result c.from_residual.ensures.1 in
     let h = c.in_err-octets.ensures in
-    rw (p.1, p.2, h.1) (psnp_tail_fault c.args.f.now (ap tail_right (sym c.from.ensures) ∙ h.0))
+    rw (p.1, p.2, h.1) (psnp_tail_fault c.args.f.now (ap tail_right (sym c.split_at.ensures.back) ∙ h.0))
 
 pub returns-in_err-check_entries : goal.returns-in_err-check_entries
 returns-in_err-check_entries c =
     let p = err_from_is_err_and c.from_residual-in_err-check_entries.result c.from_residual-in_err-check_entries.ensures.1 in
     let f = c.args.f.now in
-    let l = listed_of 17 f c.from.result.now c.in_ok-octets.octets.now c.from.ensures c.in_ok-octets.ensures in
+    let l = listed_of 17 f c.split_at.result.1.now c.in_ok-octets.octets.now c.split_at.ensures.back c.in_ok-octets.ensures in
     rw (p.1, p.2)
     (psnp_entries f l.0
     ∙ (sym (same_first 19 _ _ _ _ _ _ refl refl l.1) ∙ unless_err _ tt _ (sym c.in_err-check_entries.ensures)))
@@ -26,9 +26,9 @@ returns-in_err-check_entries c =
 pub returns : goal.returns
 returns c =
     let f = c.args.f.now in
-    let l = listed_of 17 f c.from.result.now c.in_ok-octets.octets.now c.from.ensures c.in_ok-octets.ensures in (
+    let l = listed_of 17 f c.split_at.result.1.now c.in_ok-octets.octets.now c.split_at.ensures.back c.in_ok-octets.ensures in (
       psnp_entries f l.0
           ∙ (sym (same_first 19 _ _ _ _ _ _ refl refl l.1) ∙ unless_ok _ tt tt (sym c.in_ok-check_entries.ensures)),
       made_psnp _ _ _ _ (ap value c.array_at.ensures) l.1,
-      (own_part 17 f _ _ c.from.ensures c.in_ok-octets.ensures.1, refl),
+      (own_part 17 f _ _ c.split_at.ensures.back c.in_ok-octets.ensures.1, refl),
     )
