@@ -1,6 +1,7 @@
 // The header of a frame, whose faults all kinds share.
-ghost use Rattle.std.specs.Prelude.{◌≡◌, ◌≤◌, length};
+ghost use Rattle.std.specs.Prelude.{◌≡◌, ◌≤◌, length, IfOk};
 ghost use Rattle.fault.specs.Order.{unless};
+ghost use Rattle.frame.specs.Kinds.{header_size};
 ghost use Rattle.frame.specs.Reading.{fixed, wrong_octet, length_off, header_answer};
 
 use crate::cells::two_at;
@@ -32,7 +33,8 @@ fn length_is_off(f: &[u8], size: usize) -> bool
 
 // The kind of a frame, or the first fault of its header.
 pub(crate) fn read_header(f: &[u8]) -> Result<Kind, FrameFault>
-    ensures { result ≡ header_answer f.now }
+    ensures value { result ≡ header_answer f.now }
+    ensures long { IfOk result (λ kind. header_size kind ≤ length f.now) }
 {
     if f.len() < 8 {
         return Err(FrameFault::Short(f.len()));

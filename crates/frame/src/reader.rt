@@ -59,6 +59,7 @@ fn content_of(m: Message<'_>) -> (usize, &[u8])
     }
 }
 
+// The octets of a frame are known to be under 256 only where the frame is a parameter.
 fn read_message(f: &[u8]) -> Result<Message<'_>, FrameFault>
     ensures reads { Reads f.now (meant result) }
     ensures parts { IfOk result (λ m. OwnParts f.now m) }
