@@ -33,9 +33,6 @@ module _ (f : List ℕ) (k : Kind) (h : header_answer f ≡ Ok k) where
   pub header_heads : Heads f k
   header_heads = heads_of f k (none_of frame_rank frame_place (header_faults f) parts.0) parts.1
 
-  pub header_long : header_size k ≤ length f
-  header_long = header_heads.long
-
   then_kind : (r : Option FrameFault) → first_fault (kind_faults (Some k) f) ≡ r → decode f ≡ answered r (Some k) f
   then_kind r e =
       let a : first_fault (kind_faults (kind_of f) f) ≡ r = ap (λ (o : Option Kind). first_fault (kind_faults o f)) parts.1 ∙ e in

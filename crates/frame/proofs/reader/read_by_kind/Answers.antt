@@ -2,7 +2,7 @@ use Rattle.std.proofs.Common.{Ok, sym, ap, ◌∙◌}
 use Rattle.std.proofs.lemmas.Result.{err_from_is_err_and}
 use Rattle.frame.specs.declared.kind.Kind.TheVariants.{Lsp, Csnp, Psnp}
 use Rattle.frame.specs.Messages.{LspPdu, CsnpPdu, PsnpPdu, lsp, csnp, psnp}
-use Rattle.frame.proofs.Decoding.{header_refused, header_long, kind_refused, kind_read}
+use Rattle.frame.proofs.Decoding.{header_refused, kind_refused, kind_read}
 use Rattle.frame.proofs.reader.read_by_kind.Goals as goal
 
 pub returns-in_err-kind : goal.returns-in_err-kind
