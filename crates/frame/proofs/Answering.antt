@@ -185,10 +185,6 @@ module _ (e : SnpEntry) (es : List SnpEntry) (place low high : ℕ) where
     pub here_order : (ltb e.id low || ltb high e.id) ≡ true → entries_fault place low high (e ∷ es) ≡ Some (Order (place + 2))
     here_order o = rw (le-ltb 1200 e.lifetime l, o) refl
 
-    pub here_right : (ltb e.id low || ltb high e.id) ≡ false →
-        entries_fault place low high (e ∷ es) ≡ entries_fault (place + 16) (e.id + 1) high es
-    here_right o = rw (le-ltb 1200 e.lifetime l, o) refl
-
 -- what a check answers
 pub refused : (o : Option FrameFault) (x y : FrameFault) → o ≡ Some x → y ≡ x → ◌≡◌ {A = Result (Unit {0}) FrameFault} (Err y) (unless o tt)
 refused o x y p q = rw (p, q) refl
