@@ -207,26 +207,6 @@ tail_counts (x ∷ n ∷ xs) f size p r b =
     let e : length (drop size f) ≡ suc (suc (length xs)) = ap (length {A = ℕ}) p in
     (omega (arith, w.most), λ z. omega (arith, w.whole, w.count))
 
--- a right tail is one field that lists entries
-pub tail_lists : (t v rest : List ℕ) (code : ℕ) → Front t code v rest → field_lists code v rest ≡ true → (tail_right t ≡ true) × (v ≡ drop 2 t)
-tail_lists [] v rest code f h = absurd (omega (arith, f.rest_length))
-tail_lists (x ∷ []) v rest code f h = absurd (omega (arith, f.rest_length))
-tail_lists (x ∷ n ∷ xs) v rest code f h =
-    let a = and_on (eqb code 9) _ h in
-    let b = and_on (eqb (length rest) 0) _ a.1 in
-    let c = and_on (eqb (length v % 16) 0) _ b.1 in
-    let d = and_on (leb 16 (length v)) (leb (length v) 240) c.1 in
-    let r0 : length rest ≡ 0 = eqb-true (length rest) 0 b.0 in
-    let n16 : length v % 16 ≡ 0 = eqb-true (length v % 16) 0 c.0 in
-    let low : 16 ≤ length v = leb-true 16 (length v) d.0 in
-    let high : length v ≤ 240 = leb-true (length v) 240 d.1 in
-    let vn : length v ≡ n = f.value_length in
-    let nx : n ≡ length xs = omega (arith, f.rest_length) in (
-      five _ _ _ _ _ (eq-eqb x 9 (sym f.code_is ∙ eqb-true code 9 a.0)) (eq-eqb n (length xs) nx) (eq-eqb (n % 16) 0 (sym (ap (λ (k : ℕ). k % 16) vn) ∙ n16))
-          (le-leb 16 n (omega arith)) (le-leb n 240 (omega arith)),
-      f.value_is ∙ take_all n xs (omega arith),
-    )
-
 -- entries at an offset are those of what stands there
 entries_shift : (k : ℕ) (f g : List ℕ) (at j : ℕ) → drop at f ≡ g → entries_at k (at + j) f ≡ entries_at k j g
 entries_shift zero f g at j e = refl

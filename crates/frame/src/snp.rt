@@ -17,7 +17,7 @@ fn lists_entries(code: u8, value: &[u8], rest: &[u8]) -> bool
     ensures { result ≡ field_lists code value.now rest.now }
 {
     let n = value.len();
-    code == 9 && rest.is_empty() && n % 16 == 0 && n >= 16 && n <= 240
+    code == 9 && rest.is_empty() && n % 16 == 0 && (16..=240).contains(&n)
 }
 
 // The octets of the entries behind a header of this size, none where nothing stands there.
