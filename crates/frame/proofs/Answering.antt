@@ -215,6 +215,6 @@ pub psnp_entries : (f : List ℕ) → tail_right (drop 17 f) ≡ true →
 psnp_entries f t = first_kind (Some Psnp) f ∙ rw t refl ∙ sym (first_entries (entries_of 17 f) 19 0 last_id)
 
 -- the same faults at entries that are the same
-pub same_first : (at low low' high high' : ℕ) (es es' : List SnpEntry) → low ≡ low' → high ≡ high' → es ≡ es' →
-    first_fault (entries_faults at low high es) ≡ first_fault (entries_faults at low' high' es')
-same_first at low low' high high' es es' p q r = rw (p, q, r) refl
+pub same_first : (at at' low low' high high' : ℕ) (es es' : List SnpEntry) → at ≡ at' → low ≡ low' → high ≡ high' → es ≡ es' →
+    first_fault (entries_faults at low high es) ≡ first_fault (entries_faults at' low' high' es')
+same_first at at' low low' high high' es es' o p q r = rw (o, p, q, r) refl

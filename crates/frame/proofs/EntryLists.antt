@@ -2,15 +2,14 @@
 use Rattle.std.proofs.Common.{◌≡◌, ℕ, zero, suc, ◌+◌, ◌-◌, ◌*◌, ◌/◌, ◌%◌, ◌<◌, ◌≤◌, min, Bool, true, false, ◌&&◌, eqb, ltb, leb, List, [], ◌∷◌, ◌++◌, length, get_or, take, drop, Some, slice_get, add-zero, sym, refl, ap, ◌∙◌, arith, length-drop, get_or-drop, drop-drop, ltb-false, le-ltb, eq-eqb, eqb-true, le-leb, leb-true}
 use Rattle.std.specs.List.{AllByRecursion}
 use Rattle.std.proofs.ByRecursion.{All-drop}
-use Rattle.std.proofs.lemmas.List.{take_all, take-take, drop-take, get_or-take, length-take}
+use Rattle.std.proofs.lemmas.List.{take-take, drop-take, get_or-take, length-take}
 use Rattle.fault.specs.declared.FrameFault.TheVariants.{Lifetime, Order}
 use Rattle.fault.proofs.Laws.{fails_not, not_fails}
 use Rattle.octets.specs.declared.checks.CheckOctets.{CheckOctets}
 use Rattle.octets.specs.Octets.{Octets, value, octets, part, field}
-use Rattle.octets.specs.Fields.{Front}
 use Rattle.octets.proofs.Numbers.{value-octets}
 use Rattle.frame.specs.Messages.{SnpEntry, entry_octets, entries_octets, tail_octets}
-use Rattle.frame.specs.Reading.{check_at, entry_at, entries_at, entries_of, entries_faults, tail_right, field_lists}
+use Rattle.frame.specs.Reading.{check_at, entry_at, entries_at, entries_of, entries_faults, tail_right}
 use Rattle.frame.specs.Meaning.{entries_in}
 use Rattle.frame.specs.Trip.{EntryFits, Rises}
 use Rattle.frame.proofs.Heads.{NoFaults, cell, run, octets-field, field_under, or_false, or_off}
@@ -283,5 +282,8 @@ get_from (suc n) (suc k) f at h =
     get_from n k f (at + 16) (omega arith)
     ∙ ap (λ (a : ℕ). Some (entry_at a f)) (let e : 16 * k + (at + 16) ≡ 16 * suc k + at = omega arith in e)
 
-pub entries_get : (n k : ℕ) (f : List ℕ) → k < n → slice_get (entries_at n 0 f) k ≡ Some (entry_at (16 * k) f)
-entries_get n k f h = get_from n k f 0 h ∙ ap (λ (a : ℕ). Some (entry_at a f)) (add-zero (16 * k))
+pub entries_get : (n k : ℕ) (f : List ℕ) → k < n → slice_get (entries_at n 0 f) k ≡ Some (entry_at 0 (part (16 * k) 16 f))
+entries_get n k f h =
+    get_from n k f 0 h
+    ∙ ap (λ (a : ℕ). Some (entry_at a f)) (add-zero (16 * k))
+    ∙ ap Some (entry_from f (drop (16 * k) f) (16 * k) refl ∙ sym (entry_front (drop (16 * k) f) 0 16 (omega arith)))

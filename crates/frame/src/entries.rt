@@ -8,21 +8,20 @@ ghost use Rattle.frame.specs.Meaning.{entry_count, entry_said, entries_in, entri
 
 use crate::cells::{array_at, check_octets_at, four_at, two_at};
 use crate::message::{Entries, Entry};
-use crate::snp::entry_count;
 
 impl<'a> Entries<'a> {
-    // How many there are.
+    // How many there are: 16 octets to each, and at most 15 count.
     pub fn count(&self) -> usize
         ensures { result ≡ entry_count self.now.octets.now }
     {
-        entry_count(self.octets)
+        (self.octets.len() / 16).min(15)
     }
 
     // The 16 octets of the k-th, from 0, with their place in the frame.
     pub fn part(&self, k: usize) -> Option<(usize, &'a [u8])>
         ensures { MatchOption result (entry_count self.now.octets.now ≤ k) (λ x. (k < entry_count self.now.octets.now) × (x.0 ≡ self.now.place + 16 * k) × (x.1.now ≡ part (16 * k) 16 self.now.octets.now)) }
     {
-        if k >= entry_count(self.octets) {
+        if k >= self.count() {
             return None;
         }
         let at = 16 * k;
@@ -33,10 +32,8 @@ impl<'a> Entries<'a> {
     pub fn entry(&self, k: usize) -> Option<Entry>
         ensures { option_map entry_said result ≡ slice_get (entries_in self.now.octets.now) k }
     {
-        if k >= entry_count(self.octets) {
-            return None;
-        }
-        Some(read_entry(self.octets, 16 * k))
+        let (_, octets) = self.part(k)?;
+        Some(read_entry(octets, 0))
     }
 
     // The entries in turn.

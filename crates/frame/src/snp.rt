@@ -4,7 +4,7 @@ ghost use Rattle.fault.specs.declared.FrameFault.TheVariants.{Tail};
 ghost use Rattle.fault.specs.Order.{first_fault, unless};
 ghost use Rattle.octets.specs.Octets.{value};
 ghost use Rattle.frame.specs.declared.message.Message.TheVariants.{Csnp as SaysCsnp, Psnp as SaysPsnp};
-ghost use Rattle.frame.specs.Meaning.{entry_count, entries_in, csnp_said, psnp_said, OwnParts};
+ghost use Rattle.frame.specs.Meaning.{Lists, entries_in, csnp_said, psnp_said, OwnParts};
 ghost use Rattle.frame.specs.Reading.{tail_right, field_lists, floor, entries_faults, csnp_faults, psnp_faults, csnp_in, psnp_in};
 
 use crate::cells::array_at;
@@ -20,17 +20,31 @@ fn lists_entries(code: u8, value: &[u8], rest: &[u8]) -> bool
     code == 9 && rest.is_empty() && n % 16 == 0 && (16..=240).contains(&n)
 }
 
-// The octets of the entries behind a header of this size, none where nothing stands there.
-pub(crate) fn read_tail(tail: &[u8], size: usize) -> Result<&[u8], FrameFault>
-    ensures { MatchResult result (λ x. (tail_right tail.now ≡ true) × (x.now ≡ drop 2 tail.now)) (λ e. (tail_right tail.now ≡ false) × (e ≡ Tail size)) }
+// The octets of the entries in a tail that stands at this place, none where nothing stands there.
+fn read_tail(tail: &[u8], place: usize) -> Result<&[u8], FrameFault>
+    ensures { MatchResult result (λ x. (tail_right tail.now ≡ true) × (x.now ≡ drop 2 tail.now)) (λ e. (tail_right tail.now ≡ false) × (e ≡ Tail place)) }
 {
     if tail.is_empty() {
         return Ok(tail);
     }
-    match read_field(tail, size) {
+    match read_field(tail, place) {
         Ok((code, value, rest)) if lists_entries(code, value, rest) => Ok(value),
-        _ => Err(FrameFault::Tail(size)),
+        _ => Err(FrameFault::Tail(place)),
     }
+}
+
+// The entries behind a header of this size.
+fn read_entries(f: &[u8], size: u16) -> Result<Entries<'_>, FrameFault>
+    requires there { size ≤ length f.now }
+    requires fits { size ≤ 33 }
+    ensures { MatchResult result (λ x. (tail_right (drop size f.now) ≡ true) × Lists size f.now x) (λ e. (tail_right (drop size f.now) ≡ false) × (e ≡ Tail size)) }
+{
+    let (_, tail) = f.split_at(usize::from(size));
+    let octets = read_tail(tail, usize::from(size))?;
+    Ok(Entries {
+        octets,
+        place: size + 2,
+    })
 }
 
 // Whether an identifier is not over the last one, or out of the range.
@@ -46,7 +60,7 @@ fn is_out(id: LspId, range: IdRange, last: Option<LspId>) -> bool
 }
 
 // Refuses entries of which one has a lifetime over 1,200, or an identifier that does not rise within the range.
-pub(crate) fn check_entries(entries: Entries<'_>, range: IdRange) -> Result<(), FrameFault>
+fn check_entries(entries: Entries<'_>, range: IdRange) -> Result<(), FrameFault>
     ensures { result ≡ unless (first_fault (entries_faults entries.entry.place (value range.start) (value range.end) (entries_in entries.entry.octets.now))) tt }
 {
     let mut place = usize::from(entries.place);
@@ -65,27 +79,18 @@ pub(crate) fn check_entries(entries: Entries<'_>, range: IdRange) -> Result<(), 
     Ok(())
 }
 
-// How many entries stand in octets, 16 to each: at most 15 count.
-pub(crate) fn entry_count(octets: &[u8]) -> usize
-    ensures { result ≡ entry_count octets.now }
-{
-    (octets.len() / 16).min(15)
-}
-
 // What the CSNP says, or its first fault.
 pub(crate) fn read_csnp(f: &[u8]) -> Result<Csnp<'_>, FrameFault>
     requires { 33 ≤ length f.now }
     ensures { MatchResult result (λ m. (first_fault (csnp_faults f.now) ≡ None) × (csnp_said m ≡ csnp_in f.now) × OwnParts f.now (SaysCsnp m)) (λ e. first_fault (csnp_faults f.now) ≡ Some e) }
 {
-    let (_, tail) = f.split_at(33);
-    let octets = read_tail(tail, 33)?;
+    let entries = read_entries(f, 33)?;
     let start = array_at(f, 17);
     let end = array_at(f, 25);
     let range = IdRange { start, end };
     if range.is_empty() {
         return Err(FrameFault::Range);
     }
-    let entries = Entries { octets, place: 35 };
     check_entries(entries, range)?;
     Ok(Csnp {
         source: array_at(f, 10),
@@ -99,9 +104,7 @@ pub(crate) fn read_psnp(f: &[u8]) -> Result<Psnp<'_>, FrameFault>
     requires { 17 ≤ length f.now }
     ensures { MatchResult result (λ m. (first_fault (psnp_faults f.now) ≡ None) × (psnp_said m ≡ psnp_in f.now) × OwnParts f.now (SaysPsnp m)) (λ e. first_fault (psnp_faults f.now) ≡ Some e) }
 {
-    let (_, tail) = f.split_at(17);
-    let octets = read_tail(tail, 17)?;
-    let entries = Entries { octets, place: 19 };
+    let entries = read_entries(f, 17)?;
     check_entries(entries, IdRange::ALL)?;
     Ok(Psnp {
         source: array_at(f, 10),
