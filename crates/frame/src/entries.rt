@@ -38,7 +38,8 @@ impl<'a> Entries<'a> {
 
     // The entries in turn.
     pub fn iter(&self) -> EntryIter<'a>
-        ensures { entries_left result ≡ entries_in self.now.octets.now }
+        ensures these { entries_left result ≡ entries_in self.now.octets.now }
+        ensures few { length (entries_left result) ≤ 15 }
     {
         EntryIter {
             left: &self.octets[..16 * self.count()],
@@ -51,7 +52,7 @@ impl<'a> IntoIterator for Entries<'a> {
 
     type IntoIter = EntryIter<'a>;
 
-    ghost into_iter_gives = { λ entries iter. entries_left iter ≡ entries_in entries.octets.now };
+    ghost into_iter_gives = { λ entries iter. (entries_left iter ≡ entries_in entries.octets.now) × (length (entries_left iter) ≤ 15) };
 
     fn into_iter(self) -> EntryIter<'a> {
         self.iter()

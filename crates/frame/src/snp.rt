@@ -48,6 +48,7 @@ fn read_entries(f: &[u8], size: u16) -> Result<Entries<'_>, FrameFault>
 }
 
 // Whether an identifier is not over the last one, or out of the range.
+// A match, since what a closure that calls a function returns is not told.
 fn is_out(id: LspId, range: IdRange, last: Option<LspId>) -> bool
     requires { value range.start ≤ floor (value range.start) last }
     ensures { result ≡ (nat_lt (value id) (floor (value range.start) last) || nat_lt (value range.end) (value id)) }

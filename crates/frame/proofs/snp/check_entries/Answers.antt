@@ -9,7 +9,7 @@ use Rattle.frame.proofs.snp.check_entries.Goals as goal
 pub loop-entry-init : goal.loop-entry-init
 loop-entry-init c =
     let xs = c.args.entries.octets.now in
-    let same = c.into_iter-entry-iterator.ensures.into_iter_gives in
+    let same = c.into_iter-entry-iterator.ensures.into_iter_gives.0 in
     record {
       decides = rw (c.from-place.ensures, same) refl;
       within = omega arith;
