@@ -1,16 +1,15 @@
 -- Entries of a summary, written and read back, at an offset that stays a variable.
-use Rattle.std.proofs.Common.{◌≡◌, ℕ, zero, suc, ◌+◌, ◌-◌, ◌*◌, ◌/◌, ◌%◌, ◌<◌, ◌≤◌, min, Bool, true, false, ◌&&◌, eqb, ltb, leb, List, [], ◌∷◌, ◌++◌, length, get_or, take, drop, sym, refl, ap, ◌∙◌, arith, length-drop, get_or-drop, drop-drop, ltb-false, le-ltb, eq-eqb, eqb-true, le-leb, leb-true}
+use Rattle.std.proofs.Common.{◌≡◌, ℕ, zero, suc, ◌+◌, ◌-◌, ◌*◌, ◌/◌, ◌%◌, ◌<◌, ◌≤◌, min, Bool, true, false, ◌&&◌, eqb, ltb, leb, List, [], ◌∷◌, ◌++◌, length, get_or, take, drop, Some, slice_get, add-zero, sym, refl, ap, ◌∙◌, arith, length-drop, get_or-drop, drop-drop, ltb-false, le-ltb, eq-eqb, eqb-true, le-leb, leb-true}
 use Rattle.std.specs.List.{AllByRecursion}
 use Rattle.std.proofs.ByRecursion.{All-drop}
-use Rattle.std.proofs.lemmas.List.{take_all}
+use Rattle.std.proofs.lemmas.List.{take-take, drop-take, get_or-take, length-take}
 use Rattle.fault.specs.declared.FrameFault.TheVariants.{Lifetime, Order}
 use Rattle.fault.proofs.Laws.{fails_not, not_fails}
 use Rattle.octets.specs.declared.checks.CheckOctets.{CheckOctets}
 use Rattle.octets.specs.Octets.{Octets, value, octets, part, field}
-use Rattle.octets.specs.Fields.{Front}
 use Rattle.octets.proofs.Numbers.{value-octets}
 use Rattle.frame.specs.Messages.{SnpEntry, entry_octets, entries_octets, tail_octets}
-use Rattle.frame.specs.Reading.{check_at, entry_at, entries_at, entries_of, entries_faults, tail_right, field_lists}
+use Rattle.frame.specs.Reading.{check_at, entry_at, entries_at, entries_of, entries_faults, tail_right}
 use Rattle.frame.specs.Meaning.{entries_in}
 use Rattle.frame.specs.Trip.{EntryFits, Rises}
 use Rattle.frame.proofs.Heads.{NoFaults, cell, run, octets-field, field_under, or_false, or_off}
@@ -207,26 +206,6 @@ tail_counts (x ∷ n ∷ xs) f size p r b =
     let e : length (drop size f) ≡ suc (suc (length xs)) = ap (length {A = ℕ}) p in
     (omega (arith, w.most), λ z. omega (arith, w.whole, w.count))
 
--- a right tail is one field that lists entries
-pub tail_lists : (t v rest : List ℕ) (code : ℕ) → Front t code v rest → field_lists code v rest ≡ true → (tail_right t ≡ true) × (v ≡ drop 2 t)
-tail_lists [] v rest code f h = absurd (omega (arith, f.rest_length))
-tail_lists (x ∷ []) v rest code f h = absurd (omega (arith, f.rest_length))
-tail_lists (x ∷ n ∷ xs) v rest code f h =
-    let a = and_on (eqb code 9) _ h in
-    let b = and_on (eqb (length rest) 0) _ a.1 in
-    let c = and_on (eqb (length v % 16) 0) _ b.1 in
-    let d = and_on (leb 16 (length v)) (leb (length v) 240) c.1 in
-    let r0 : length rest ≡ 0 = eqb-true (length rest) 0 b.0 in
-    let n16 : length v % 16 ≡ 0 = eqb-true (length v % 16) 0 c.0 in
-    let low : 16 ≤ length v = leb-true 16 (length v) d.0 in
-    let high : length v ≤ 240 = leb-true (length v) 240 d.1 in
-    let vn : length v ≡ n = f.value_length in
-    let nx : n ≡ length xs = omega (arith, f.rest_length) in (
-      five _ _ _ _ _ (eq-eqb x 9 (sym f.code_is ∙ eqb-true code 9 a.0)) (eq-eqb n (length xs) nx) (eq-eqb (n % 16) 0 (sym (ap (λ (k : ℕ). k % 16) vn) ∙ n16))
-          (le-leb 16 n (omega arith)) (le-leb n 240 (omega arith)),
-      f.value_is ∙ take_all n xs (omega arith),
-    )
-
 -- entries at an offset are those of what stands there
 entries_shift : (k : ℕ) (f g : List ℕ) (at j : ℕ) → drop at f ≡ g → entries_at k (at + j) f ≡ entries_at k j g
 entries_shift zero f g at j e = refl
@@ -259,3 +238,52 @@ listed_of size f t xs e h = (ap tail_right (sym e) ∙ h.0, ap entries_in h.1 �
 
 pub own_part : (size : ℕ) (f t xs : List ℕ) → t ≡ drop size f → xs ≡ drop 2 t → xs ≡ drop (size + 2) f
 own_part size f t xs e h = h ∙ ap (drop 2) e ∙ drop-drop 2 size f
+
+-- what stands in the first m octets
+part_front : (f : List ℕ) (at n m : ℕ) → at + n ≤ m → part at n (take m f) ≡ part at n f
+part_front f at n m h =
+    let e : m ≡ at + (m - at) = omega arith in
+    ap (λ (k : ℕ). part at n (take k f)) e ∙ ap (take n) (drop-take at (m - at) f) ∙ take-take n (m - at) (drop at f) (omega arith)
+
+entry_front : (f : List ℕ) (at m : ℕ) → at + 16 ≤ m → entry_at at (take m f) ≡ entry_at at f
+entry_front f at m h =
+    made_entry _ _ _ _ _ _ _ _ (ap value (part_front f at 2 m (omega arith))) (ap value (part_front f (at + 2) 8 m (omega arith)))
+    (ap value (part_front f (at + 10) 4 m (omega arith)))
+    (made_check _ _ _ _ (get_or-take m f (at + 14) 0 (omega arith)) (get_or-take m f (at + 14 + 1) 0 (omega arith)))
+
+entries_front : (k : ℕ) (f : List ℕ) (at m : ℕ) → at + 16 * k ≤ m → entries_at k at (take m f) ≡ entries_at k at f
+entries_front zero f at m h = refl
+entries_front (suc k) f at m h =
+    ap (λ (e : SnpEntry). e ∷ entries_at k (at + 16) (take m f)) (entry_front f at m (omega arith))
+    ∙ ap (λ (es : List SnpEntry). entry_at at f ∷ es) (entries_front k f (at + 16) m (omega arith))
+
+-- the octets of n entries hold these
+pub entries_cut : (n : ℕ) (f : List ℕ) → 16 * n ≤ length f → entries_at (length (take (16 * n) f) / 16) 0 (take (16 * n) f) ≡ entries_at n 0 f
+entries_cut n f h =
+    let e : length (take (16 * n) f) / 16 ≡ n = omega (arith, length-take (16 * n) f) in
+    ap (λ (k : ℕ). entries_at k 0 (take (16 * n) f)) e ∙ entries_front n f 0 (16 * n) (omega arith)
+
+-- the first entry and the others
+pub entries_first : (f e rest : List ℕ) → 16 ≤ length f → take 16 f ≡ e → drop 16 f ≡ rest →
+    entries_at (length f / 16) 0 f ≡ entry_at 0 e ∷ entries_at (length rest / 16) 0 rest
+entries_first f e rest h p q =
+    let n = length rest / 16 in
+    let k : length f / 16 ≡ suc n = omega (arith, length-drop 16 f, ap (length {A = ℕ}) q) in
+    let a : entry_at 0 f ≡ entry_at 0 e = sym (entry_front f 0 16 (omega arith)) ∙ ap (entry_at 0) p in
+    ap (λ (k : ℕ). entries_at k 0 f) k
+    ∙ ap (λ (x : SnpEntry). x ∷ entries_at n 16 f) a
+    ∙ ap (λ (es : List SnpEntry). entry_at 0 e ∷ es) (entries_shift n f rest 16 0 q)
+
+-- the k-th entry
+get_from : (n k : ℕ) (f : List ℕ) (at : ℕ) → k < n → slice_get (entries_at n at f) k ≡ Some (entry_at (16 * k + at) f)
+get_from zero k f at h = absurd (omega arith)
+get_from (suc n) zero f at h = ap (λ (a : ℕ). Some (entry_at a f)) (let e : at ≡ 16 * 0 + at = omega arith in e)
+get_from (suc n) (suc k) f at h =
+    get_from n k f (at + 16) (omega arith)
+    ∙ ap (λ (a : ℕ). Some (entry_at a f)) (let e : 16 * k + (at + 16) ≡ 16 * suc k + at = omega arith in e)
+
+pub entries_get : (n k : ℕ) (f : List ℕ) → k < n → slice_get (entries_at n 0 f) k ≡ Some (entry_at 0 (part (16 * k) 16 f))
+entries_get n k f h =
+    get_from n k f 0 h
+    ∙ ap (λ (a : ℕ). Some (entry_at a f)) (add-zero (16 * k))
+    ∙ ap Some (entry_from f (drop (16 * k) f) (16 * k) refl ∙ sym (entry_front (drop (16 * k) f) 0 16 (omega arith)))

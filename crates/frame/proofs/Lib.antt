@@ -1,4 +1,3 @@
-pub mod Numerals
 pub mod Heads
 pub mod Lsps
 pub mod EntryLists

@@ -1,5 +1,8 @@
 -- The kinds of frames.
-use Rattle.std.specs.Prelude.{ℕ, cond, Some, None, Option, ◌==◌}
+use Rattle.std.specs.Prelude.{ℕ, cond, Some, None, Option, Result, ◌==◌}
+use Rattle.std.specs.Option.{ok_or}
+use Rattle.fault.specs.declared.FrameFault.{FrameFault}
+use Rattle.fault.specs.declared.FrameFault.TheVariants.{Kind as UnknownKind}
 use Rattle.frame.specs.declared.kind.Kind.{Kind}
 use Rattle.frame.specs.declared.kind.Kind.TheVariants.{Lsp, Csnp, Psnp}
 
@@ -12,6 +15,10 @@ kind_octet Psnp = 26
 -- the kind that an octet names
 abbrev pub kind_named : ℕ → Option Kind
 kind_named n = cond (n == 18) (Some Lsp) (cond (n == 24) (Some Csnp) (cond (n == 26) (Some Psnp) None))
+
+-- the same, with the fault of an octet that names none
+abbrev pub named : ℕ → Result Kind FrameFault
+named n = ok_or (kind_named n) UnknownKind
 
 -- the header's octets
 abbrev pub header_size : Kind → ℕ

@@ -1,34 +1,25 @@
 // The header of a frame, whose faults all kinds share.
-ghost use Rattle.std.specs.Prelude.{◌≡◌, ◌≤◌, length};
+ghost use Rattle.std.specs.Prelude.{◌≡◌, ◌≤◌, length, IfOk};
 ghost use Rattle.fault.specs.Order.{unless};
+ghost use Rattle.frame.specs.Kinds.{header_size};
 ghost use Rattle.frame.specs.Reading.{fixed, wrong_octet, length_off, header_answer};
 
 use crate::cells::two_at;
 use crate::kind::Kind;
 use fault::FrameFault;
 
+// The fixed octets with their places.
+const FIXED: [(usize, u8); 6] = [(0, 0x83), (2, 1), (3, 0), (5, 1), (6, 0), (7, 0)];
+
 // Refuses a frame whose fixed octets are not all right.
 fn check_fixed(f: &[u8]) -> Result<(), FrameFault>
     requires { 8 ≤ length f.now }
     ensures { result ≡ unless (wrong_octet fixed f.now) tt }
 {
-    if f[0] != 0x83 {
-        return Err(FrameFault::Fixed(0));
-    }
-    if f[2] != 1 {
-        return Err(FrameFault::Fixed(2));
-    }
-    if f[3] != 0 {
-        return Err(FrameFault::Fixed(3));
-    }
-    if f[5] != 1 {
-        return Err(FrameFault::Fixed(5));
-    }
-    if f[6] != 0 {
-        return Err(FrameFault::Fixed(6));
-    }
-    if f[7] != 0 {
-        return Err(FrameFault::Fixed(7));
+    for (at, octet) in FIXED {
+        if f[at] != octet {
+            return Err(FrameFault::Fixed(at));
+        }
     }
     Ok(())
 }
@@ -37,23 +28,19 @@ fn check_fixed(f: &[u8]) -> Result<(), FrameFault>
 fn length_is_off(f: &[u8], size: usize) -> bool
     ensures { result ≡ length_off size f.now }
 {
-    if f.len() < 10 {
-        return true;
-    }
-    usize::from(two_at(f, 8)) != f.len() || f.len() < size || f.len() > 275
+    f.len() < 10 || usize::from(two_at(f, 8)) != f.len() || f.len() < size || f.len() > 275
 }
 
 // The kind of a frame, or the first fault of its header.
 pub(crate) fn read_header(f: &[u8]) -> Result<Kind, FrameFault>
-    ensures { result ≡ header_answer f.now }
+    ensures value { result ≡ header_answer f.now }
+    ensures long { IfOk result (λ kind. header_size kind ≤ length f.now) }
 {
     if f.len() < 8 {
         return Err(FrameFault::Short(f.len()));
     }
     check_fixed(f)?;
-    let Some(kind) = Kind::named(f[4]) else {
-        return Err(FrameFault::Kind);
-    };
+    let kind = Kind::try_from(f[4])?;
     if usize::from(f[1]) != kind.header_size() {
         return Err(FrameFault::Header);
     }

@@ -1,6 +1,8 @@
 // The kinds of frames.
 ghost use Rattle.std.specs.Prelude.{◌≡◌};
-ghost use Rattle.frame.specs.Kinds.{kind_octet, kind_named, header_size};
+ghost use Rattle.frame.specs.Kinds.{kind_octet, named, header_size};
+
+use fault::FrameFault;
 
 // What a frame is, by its octet 4.
 #[derive(Clone, Copy, PartialEq, Eq, Debug)]
@@ -13,30 +15,36 @@ pub enum Kind {
     Psnp,
 }
 
-impl Kind {
-    // The kind that an octet names, if any.
-    pub fn named(octet: u8) -> Option<Kind>
-        ensures { result ≡ kind_named octet }
-    {
+impl TryFrom<u8> for Kind {
+    type Error = FrameFault;
+
+    ghost try_from_gives = { λ octet r. r ≡ named octet };
+
+    // The kind that an octet names.
+    fn try_from(octet: u8) -> Result<Kind, FrameFault> {
         match octet {
-            18 => Some(Kind::Lsp),
-            24 => Some(Kind::Csnp),
-            26 => Some(Kind::Psnp),
-            _ => None,
+            18 => Ok(Kind::Lsp),
+            24 => Ok(Kind::Csnp),
+            26 => Ok(Kind::Psnp),
+            _ => Err(FrameFault::Kind),
         }
     }
+}
 
-    // Octet 4 of its frames.
-    pub fn octet(self) -> u8
-        ensures { result ≡ kind_octet self }
-    {
-        match self {
+impl From<Kind> for u8 {
+    ghost from_gives = { λ kind octet. octet ≡ kind_octet kind };
+
+    // Octet 4 of a kind's frames.
+    fn from(kind: Kind) -> u8 {
+        match kind {
             Kind::Lsp => 18,
             Kind::Csnp => 24,
             Kind::Psnp => 26,
         }
     }
+}
 
+impl Kind {
     // How many octets its header has.
     pub fn header_size(self) -> usize
         ensures { result ≡ header_size self }

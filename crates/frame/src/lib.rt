@@ -10,6 +10,7 @@ mod message;
 mod reader;
 mod snp;
 
+pub use entries::EntryIter;
 pub use kind::Kind;
 pub use message::{Csnp, Entries, Entry, Lsp, Message, Psnp};
 pub use reader::FrameReader;

@@ -1,40 +1,22 @@
 // Reading an LSP whose header is right.
-ghost use Rattle.std.specs.Prelude.{◌≡◌, ◌≤◌, length, drop, Some, None, MatchResult};
+ghost use Rattle.std.specs.Prelude.{◌≡◌, ◌≤◌, length, Some, None, MatchResult};
 ghost use Rattle.fault.specs.Order.{first_fault};
-ghost use Rattle.octets.specs.Checks.{right};
 ghost use Rattle.frame.specs.Reading.{check_wrong, lsp_faults, lsp_in};
 ghost use Rattle.frame.specs.Meaning.{lsp_said};
 
-use crate::cells::{check_octets_at, four_at, id_at, two_at};
-use crate::message::Lsp;
+use crate::cells::two_at;
+use crate::entries::read_entry;
+use crate::message::{Entry, Lsp};
 use fault::FrameFault;
-use octets::{check_body, covered, is_right};
+use octets::{check_body, is_right};
 
-// The octets of a frame from k on.
-pub(crate) fn from(f: &[u8], k: usize) -> &[u8]
-    requires { k ≤ length f.now }
-    ensures { result.now ≡ drop k f.now }
-{
-    &f[k..]
-}
-
-// Whether the check octets are right, which stand at places 13 and 14 of the part that they cover.
-fn check_is_right(f: &[u8]) -> bool
-    requires { 12 ≤ length f.now }
-    ensures { result ≡ right 13 (drop 12 f.now) }
-{
-    match covered(f) {
-        Some(part) => is_right(part, 13),
-        None => false,
-    }
-}
-
-// Whether a live LSP's check octets are wrong.
+// Whether a live LSP's check octets are wrong, which stand at places 13 and 14 of the part that they cover.
 fn check_is_wrong(f: &[u8]) -> bool
     requires { 12 ≤ length f.now }
     ensures { result ≡ check_wrong f.now }
 {
-    two_at(f, 10) > 0 && !check_is_right(f)
+    let (_, part) = f.split_at(12);
+    two_at(f, 10) > 0 && !is_right(part, 13)
 }
 
 // What the LSP says, or its first fault. Check octets are looked at only where it is live.
@@ -42,13 +24,17 @@ pub(crate) fn read_lsp(f: &[u8]) -> Result<Lsp<'_>, FrameFault>
     requires { 27 ≤ length f.now }
     ensures { MatchResult result (λ m. (first_fault (lsp_faults f.now) ≡ None) × (lsp_said m ≡ lsp_in f.now)) (λ e. first_fault (lsp_faults f.now) ≡ Some e) }
 {
-    let body = from(f, 27);
+    let (_, body) = f.split_at(27);
     check_body(body, 27)?;
-    let lifetime = two_at(f, 10);
+    let Entry {
+        lifetime,
+        id,
+        number,
+        check,
+    } = read_entry(f, 10);
     if lifetime > 1200 {
         return Err(FrameFault::Lifetime(10));
     }
-    let number = four_at(f, 20);
     if number == 0 {
         return Err(FrameFault::Number);
     }
@@ -57,9 +43,9 @@ pub(crate) fn read_lsp(f: &[u8]) -> Result<Lsp<'_>, FrameFault>
     }
     Ok(Lsp {
         lifetime,
-        id: id_at(f, 12),
+        id,
         number,
-        check: check_octets_at(f, 24),
+        check,
         flags: f[26],
         body,
     })

@@ -1,8 +1,8 @@
 // What frames say.
-use octets::{CheckOctets, LspId, SourceId};
+use octets::{CheckOctets, IdRange, LspId, SourceId};
 
 // An LSP. Lifetime 0 says that the record is purged.
-#[derive(Clone, Copy)]
+#[derive(Clone, Copy, PartialEq, Eq, Debug)]
 pub struct Lsp<'a> {
     pub lifetime: u16,
     pub id: LspId,
@@ -15,7 +15,7 @@ pub struct Lsp<'a> {
 }
 
 // A record as a summary lists it.
-#[derive(Clone, Copy)]
+#[derive(Clone, Copy, PartialEq, Eq, Debug, Default)]
 pub struct Entry {
     pub lifetime: u16,
     pub id: LspId,
@@ -24,27 +24,26 @@ pub struct Entry {
 }
 
 // The entries of a summary, 16 octets each and at most 15, as a part of the caller's frame with its place.
-#[derive(Clone, Copy)]
+#[derive(Clone, Copy, PartialEq, Eq, Debug)]
 pub struct Entries<'a> {
     pub(crate) octets: &'a [u8],
     pub(crate) place: u16,
 }
 
-#[derive(Clone, Copy)]
+#[derive(Clone, Copy, PartialEq, Eq, Debug)]
 pub struct Csnp<'a> {
     pub source: SourceId,
-    pub start: LspId,
-    pub end: LspId,
+    pub range: IdRange,
     pub entries: Entries<'a>,
 }
 
-#[derive(Clone, Copy)]
+#[derive(Clone, Copy, PartialEq, Eq, Debug)]
 pub struct Psnp<'a> {
     pub source: SourceId,
     pub entries: Entries<'a>,
 }
 
-#[derive(Clone, Copy)]
+#[derive(Clone, Copy, PartialEq, Eq, Debug)]
 pub enum Message<'a> {
     Lsp(Lsp<'a>),
     Csnp(Csnp<'a>),

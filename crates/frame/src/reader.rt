@@ -12,7 +12,7 @@ use crate::snp::{read_csnp, read_psnp};
 use fault::FrameFault;
 
 // A reader over the octets of a frame, whatever they are. What it hands out are parts of the caller's frame.
-#[derive(Clone, Copy)]
+#[derive(Clone, Copy, PartialEq, Eq, Debug)]
 pub struct FrameReader<'a> {
     frame: &'a [u8],
 }
@@ -59,6 +59,7 @@ fn content_of(m: Message<'_>) -> (usize, &[u8])
     }
 }
 
+// The octets of a frame are known to be under 256 only where the frame is a parameter.
 fn read_message(f: &[u8]) -> Result<Message<'_>, FrameFault>
     ensures reads { Reads f.now (meant result) }
     ensures parts { IfOk result (λ m. OwnParts f.now m) }

@@ -4,83 +4,80 @@ ghost use Rattle.fault.specs.declared.FrameFault.TheVariants.{Tail};
 ghost use Rattle.fault.specs.Order.{first_fault, unless};
 ghost use Rattle.octets.specs.Octets.{value};
 ghost use Rattle.frame.specs.declared.message.Message.TheVariants.{Csnp as SaysCsnp, Psnp as SaysPsnp};
-ghost use Rattle.frame.specs.Meaning.{entry_count, entries_in, csnp_said, psnp_said, OwnParts};
+ghost use Rattle.frame.specs.Meaning.{Lists, entries_in, csnp_said, psnp_said, OwnParts};
 ghost use Rattle.frame.specs.Reading.{tail_right, field_lists, floor, entries_faults, csnp_faults, psnp_faults, csnp_in, psnp_in};
 
-use crate::cells::{id_at, source_at, two_at};
-use crate::lsp::from;
+use crate::cells::array_at;
 use crate::message::{Csnp, Entries, Psnp};
 use fault::FrameFault;
-use octets::{LspId, before, read_field};
+use octets::{IdRange, LspId, before, read_field};
 
 // Whether a field of this code, with this value and this rest behind it, holds 1 to 15 entries and is the last.
 fn lists_entries(code: u8, value: &[u8], rest: &[u8]) -> bool
     ensures { result ≡ field_lists code value.now rest.now }
 {
     let n = value.len();
-    code == 9 && rest.is_empty() && n % 16 == 0 && n >= 16 && n <= 240
+    code == 9 && rest.is_empty() && n % 16 == 0 && (16..=240).contains(&n)
 }
 
-// The octets of the entries behind a header of this size, none where nothing stands there.
-pub(crate) fn read_tail(tail: &[u8], size: usize) -> Result<&[u8], FrameFault>
-    ensures { MatchResult result (λ x. (tail_right tail.now ≡ true) × (x.now ≡ drop 2 tail.now)) (λ e. (tail_right tail.now ≡ false) × (e ≡ Tail size)) }
+// The octets of the entries in a tail that stands at this place, none where nothing stands there.
+fn read_tail(tail: &[u8], place: usize) -> Result<&[u8], FrameFault>
+    ensures { MatchResult result (λ x. (tail_right tail.now ≡ true) × (x.now ≡ drop 2 tail.now)) (λ e. (tail_right tail.now ≡ false) × (e ≡ Tail place)) }
 {
     if tail.is_empty() {
         return Ok(tail);
     }
-    match read_field(tail, size) {
-        Ok((code, value, rest)) => {
-            if lists_entries(code, value, rest) {
-                return Ok(value);
-            }
-            Err(FrameFault::Tail(size))
-        }
-        Err(_) => Err(FrameFault::Tail(size)),
+    match read_field(tail, place) {
+        Ok((code, value, rest)) if lists_entries(code, value, rest) => Ok(value),
+        _ => Err(FrameFault::Tail(place)),
     }
 }
 
-// Whether an identifier is not over the last one, or under the start where there is none, or over the end.
-fn is_out(id: LspId, start: LspId, end: LspId, last: Option<LspId>) -> bool
-    ensures { result ≡ (nat_lt (value id) (floor (value start) last) || nat_lt (value end) (value id)) }
+// The entries behind a header of this size.
+fn read_entries(f: &[u8], size: u16) -> Result<Entries<'_>, FrameFault>
+    requires there { size ≤ length f.now }
+    requires fits { size ≤ 33 }
+    ensures { MatchResult result (λ x. (tail_right (drop size f.now) ≡ true) × Lists size f.now x) (λ e. (tail_right (drop size f.now) ≡ false) × (e ≡ Tail size)) }
 {
-    let rises = match last {
-        Some(last) => before(last, id),
-        None => !before(id, start),
-    };
-    !rises || before(end, id)
+    let (_, tail) = f.split_at(usize::from(size));
+    let octets = read_tail(tail, usize::from(size))?;
+    Ok(Entries {
+        octets,
+        place: size + 2,
+    })
 }
 
-// Refuses entries of which one has a lifetime over 1,200, or an identifier that does not rise from start to end.
-// Their first octet stands at this place of the frame.
-pub(crate) fn check_entries(
-    octets: &[u8],
-    place: u16,
-    start: LspId,
-    end: LspId,
-) -> Result<(), FrameFault>
-    ensures { result ≡ unless (first_fault (entries_faults place (value start) (value end) (entries_in octets.now))) tt }
+// Whether an identifier is not over the last one, or out of the range.
+// A match, since what a closure that calls a function returns is not told.
+fn is_out(id: LspId, range: IdRange, last: Option<LspId>) -> bool
+    requires { value range.start ≤ floor (value range.start) last }
+    ensures { result ≡ (nat_lt (value id) (floor (value range.start) last) || nat_lt (value range.end) (value id)) }
 {
+    let falls = match last {
+        Some(last) => !before(last, id),
+        None => false,
+    };
+    falls || !range.contains(id)
+}
+
+// Refuses entries of which one has a lifetime over 1,200, or an identifier that does not rise within the range.
+fn check_entries(entries: Entries<'_>, range: IdRange) -> Result<(), FrameFault>
+    ensures { result ≡ unless (first_fault (entries_faults entries.entry.place (value range.start) (value range.end) (entries_in entries.entry.octets.now))) tt }
+{
+    let mut place = usize::from(entries.place);
     let mut last = None;
-    for k in 0..entry_count(octets) {
-        let at = 16 * k;
-        let place = usize::from(place) + at;
-        if two_at(octets, at) > 1200 {
+    for entry in entries {
+        if entry.lifetime > 1200 {
             return Err(FrameFault::Lifetime(place));
         }
-        let id = id_at(octets, at + 2);
-        if is_out(id, start, end, last) {
+        let id = entry.id;
+        if is_out(id, range, last) {
             return Err(FrameFault::Order(place + 2));
         }
         last = Some(id);
+        place += 16;
     }
     Ok(())
-}
-
-// How many entries stand in octets, 16 to each: at most 15 count.
-pub(crate) fn entry_count(octets: &[u8]) -> usize
-    ensures { result ≡ entry_count octets.now }
-{
-    (octets.len() / 16).min(15)
 }
 
 // What the CSNP says, or its first fault.
@@ -88,18 +85,17 @@ pub(crate) fn read_csnp(f: &[u8]) -> Result<Csnp<'_>, FrameFault>
     requires { 33 ≤ length f.now }
     ensures { MatchResult result (λ m. (first_fault (csnp_faults f.now) ≡ None) × (csnp_said m ≡ csnp_in f.now) × OwnParts f.now (SaysCsnp m)) (λ e. first_fault (csnp_faults f.now) ≡ Some e) }
 {
-    let octets = read_tail(from(f, 33), 33)?;
-    let start = id_at(f, 17);
-    let end = id_at(f, 25);
-    if before(end, start) {
+    let entries = read_entries(f, 33)?;
+    let start = array_at(f, 17);
+    let end = array_at(f, 25);
+    let range = IdRange { start, end };
+    if range.is_empty() {
         return Err(FrameFault::Range);
     }
-    check_entries(octets, 35, start, end)?;
-    let entries = Entries { octets, place: 35 };
+    check_entries(entries, range)?;
     Ok(Csnp {
-        source: source_at(f, 10),
-        start,
-        end,
+        source: array_at(f, 10),
+        range,
         entries,
     })
 }
@@ -109,11 +105,10 @@ pub(crate) fn read_psnp(f: &[u8]) -> Result<Psnp<'_>, FrameFault>
     requires { 17 ≤ length f.now }
     ensures { MatchResult result (λ m. (first_fault (psnp_faults f.now) ≡ None) × (psnp_said m ≡ psnp_in f.now) × OwnParts f.now (SaysPsnp m)) (λ e. first_fault (psnp_faults f.now) ≡ Some e) }
 {
-    let octets = read_tail(from(f, 17), 17)?;
-    check_entries(octets, 19, [0; 8], [0xff; 8])?;
-    let entries = Entries { octets, place: 19 };
+    let entries = read_entries(f, 17)?;
+    check_entries(entries, IdRange::ALL)?;
     Ok(Psnp {
-        source: source_at(f, 10),
+        source: array_at(f, 10),
         entries,
     })
 }

@@ -1,7 +1,7 @@
 // Frames written out by hand, and what the tests share.
 use fault::FrameFault;
 use frame::{Entries, Entry, FrameReader, Message};
-use octets::{CheckOctets, LspId, SourceId};
+use octets::{CheckOctets, IdRange, LspId, SourceId};
 use std::alloc::{AllocError, Global};
 
 // Identifier 0000.0000.0001.00-00.
@@ -118,14 +118,6 @@ pub(crate) fn summary_frame(heap: Global, front: &[u8], count: u8) -> Result<Vec
     joined(heap, front, &listing(heap, count)?)
 }
 
-// An entry's lifetime, identifier, number and check octets.
-pub(crate) type Said = (u16, LspId, u32, [u8; 2]);
-
-pub(crate) fn said(e: Entry) -> Said {
-    let id = e.id;
-    (e.lifetime, id, e.number, [e.check.x, e.check.y])
-}
-
 // What an LSP says but for its body.
 pub(crate) fn lsp_said(frame: &[u8]) -> Option<(u16, LspId, u32, [u8; 2], u8)> {
     match FrameReader::new(frame).message() {
@@ -137,18 +129,16 @@ pub(crate) fn lsp_said(frame: &[u8]) -> Option<(u16, LspId, u32, [u8; 2], u8)> {
     }
 }
 
-// The source of a summary, and a CSNP's start and end.
-pub(crate) fn bounds(frame: &[u8]) -> Option<(SourceId, LspId, LspId)> {
+// The source of a summary, and its range: a PSNP may list any identifier.
+pub(crate) fn bounds(frame: &[u8]) -> Option<(SourceId, IdRange)> {
     match FrameReader::new(frame).message() {
         Ok(Message::Csnp(m)) => {
             let source = m.source;
-            let start = m.start;
-            let end = m.end;
-            Some((source, start, end))
+            Some((source, m.range))
         }
         Ok(Message::Psnp(m)) => {
             let source = m.source;
-            Some((source, [0; 8], [255; 8]))
+            Some((source, IdRange::ALL))
         }
         _ => None,
     }
@@ -164,11 +154,8 @@ pub(crate) fn entries_of(frame: &[u8]) -> Option<Entries<'_>> {
 }
 
 // What an entry of a summary says.
-pub(crate) fn entry_said(frame: &[u8], k: usize) -> Option<Said> {
-    match entries_of(frame)?.entry(k) {
-        Some(e) => Some(said(e)),
-        None => None,
-    }
+pub(crate) fn entry_of(frame: &[u8], k: usize) -> Option<Entry> {
+    entries_of(frame)?.entry(k)
 }
 
 // The place and the octets of an entry of a summary.

@@ -1,6 +1,8 @@
 // What frames that are read say.
 use crate::frames::*;
-use frame::FrameReader;
+use frame::{Entry, FrameReader};
+use octets::{CheckOctets, IdRange};
+use std::test::Fail;
 
 // An LSP of lifetime 0 keeps its check octets, whatever they are.
 #[test]
@@ -13,8 +15,16 @@ fn reads_lsps(rt: HostRuntime) {
 
 #[test]
 fn reads_bounds(rt: HostRuntime) {
-    assert_eq!(rt; bounds(CSNP), Some((SOURCE, ONE, NINE)));
-    assert_eq!(rt; bounds(PSNP), Some((SOURCE, [0; 8], [255; 8])));
+    let range = IdRange {
+        start: ONE,
+        end: NINE,
+    };
+    assert_eq!(rt; bounds(CSNP), Some((SOURCE, range)));
+    let all = IdRange {
+        start: [0; 8],
+        end: [255; 8],
+    };
+    assert_eq!(rt; bounds(PSNP), Some((SOURCE, all)));
 }
 
 // The octets of the two entries of CSNP and PSNP.
@@ -29,14 +39,27 @@ const TWO_OCTETS: &[u8; 32] = b"\x04\xb0\0\0\0\0\0\x01\0\0\0\0\0\x01\xf6\x06\
 const WRONG_LSP: &[u8; 27] = b"\x83\x1b\x01\x00\x12\x01\x00\x00\x00\x1b\
     \x04\xb0\x00\x00\x00\x00\x00\x01\x00\x00\x00\x00\x00\x01\xf4\x07\x01";
 
-const SECOND: Said = (7, [0, 0, 0, 0, 0, 2, 0, 0], 0x01020304, [0xab, 0xcd]);
+// What these say.
+const FIRST: Entry = Entry {
+    lifetime: 1200,
+    id: ONE,
+    number: 1,
+    check: CheckOctets { x: 0xf6, y: 0x06 },
+};
+
+const SECOND: Entry = Entry {
+    lifetime: 7,
+    id: [0, 0, 0, 0, 0, 2, 0, 0],
+    number: 0x01020304,
+    check: CheckOctets { x: 0xab, y: 0xcd },
+};
 
 // A summary, which entry of it, from 0, and what it says.
-static ENTRIES: [(&[u8], usize, Option<Said>); 8] = [
-    (CSNP, 0, Some((1200, ONE, 1, [0xf6, 0x06]))),
+static ENTRIES: [(&[u8], usize, Option<Entry>); 8] = [
+    (CSNP, 0, Some(FIRST)),
     (CSNP, 1, Some(SECOND)),
     (CSNP, 2, None),
-    (PSNP, 0, Some((1200, ONE, 1, [0xf6, 0x06]))),
+    (PSNP, 0, Some(FIRST)),
     (PSNP, 1, Some(SECOND)),
     (PSNP, 2, None),
     (BARE_CSNP, 0, None),
@@ -46,8 +69,31 @@ static ENTRIES: [(&[u8], usize, Option<Said>); 8] = [
 #[test]
 fn reads_entries(rt: HostRuntime) {
     for (frame, k, want) in &ENTRIES {
-        assert_eq!(rt; entry_said(*frame, *k), *want);
+        assert_eq!(rt; entry_of(*frame, *k), *want);
     }
+}
+
+// A summary, and its entries in turn.
+static LISTS: [(&[u8], &[Entry]); 4] = [
+    (CSNP, &[FIRST, SECOND]),
+    (PSNP, &[FIRST, SECOND]),
+    (BARE_CSNP, &[]),
+    (BARE_PSNP, &[]),
+];
+
+#[test]
+fn reads_entries_in_turn(rt: HostRuntime) -> Result<(), Fail> {
+    for (frame, want) in &LISTS {
+        let entries = entries_of(*frame).ok_or("no summary")?;
+        assert_eq!(rt;
+            (entries.count(), entries.iter().count()),
+            (want.len(), want.len())
+        );
+        for (e, want) in entries.into_iter().zip(*want) {
+            assert_eq!(rt; e, *want);
+        }
+    }
+    Ok(())
 }
 
 // A summary, which entry of it, from 0, its place and its octets.
@@ -96,7 +142,7 @@ static KINDS: [(&[u8], Result<u8, Refusal>); 6] = [
 fn reads_kinds(rt: HostRuntime) {
     for (frame, want) in &KINDS {
         let got = match FrameReader::new(*frame).kind() {
-            Ok(kind) => Ok(kind.octet()),
+            Ok(kind) => Ok(u8::from(kind)),
             Err(fault) => Err(refusal(fault)),
         };
         assert_eq!(rt; got, *want);

@@ -109,9 +109,9 @@ fn check_read(rt: &impl Abort, summary: ClosedSummary, size: usize, count: u8) -
     assert!(rt; n == size && n <= 275);
     let frame = &buf[0..n];
     for k in 0..count {
-        assert_eq!(rt; entry_said(frame, usize::from(k)), Some(said(entry(k + 1))));
+        assert_eq!(rt; entry_of(frame, usize::from(k)), Some(entry(k + 1)));
     }
-    assert_eq!(rt; entry_said(frame, usize::from(count)), None);
+    assert_eq!(rt; entry_of(frame, usize::from(count)), None);
     Ok(())
 }
 

@@ -69,8 +69,8 @@ fn push_octets(heap: Global, s: &mut String, octets: &[u8]) -> Result<(), AllocE
 
 fn describe_csnp(heap: Global, m: &Csnp<'_>, back: &str) -> Result<String, AllocError> {
     let source = Source(m.source);
-    let start = Id(m.start);
-    let end = Id(m.end);
+    let start = Id(m.range.start);
+    let end = Id(m.range.end);
     let count = m.entries.count();
     let mut s = format!(in heap;
         "CSNP source {source} from {start} to {end} entries {count}, {back}\n"
@@ -89,11 +89,9 @@ fn describe_psnp(heap: Global, m: &Psnp<'_>, back: &str) -> Result<String, Alloc
 
 // A line for each entry.
 fn push_entries(heap: Global, s: &mut String, entries: &Entries<'_>) -> Result<(), AllocError> {
-    for k in 0..entries.count() {
-        if let Some(e) = entries.entry(k) {
-            let line = describe_entry(heap, &e)?;
-            s.push_str(line.as_str())?;
-        }
+    for e in entries.iter() {
+        let line = describe_entry(heap, &e)?;
+        s.push_str(line.as_str())?;
     }
     Ok(())
 }

@@ -5,10 +5,7 @@ use writer::{OpenSummary, write_lsp};
 
 // A summary that lists these entries.
 fn listing(mut summary: OpenSummary, entries: &Entries<'_>) -> Result<OpenSummary, FrameFault> {
-    for k in 0..entries.count() {
-        let Some(e) = entries.entry(k) else {
-            return Err(FrameFault::Summary);
-        };
+    for e in entries.iter() {
         summary = match summary.add(e) {
             Ok(more) => more,
             Err(refusal) => return Err(refusal.fault),
@@ -23,7 +20,7 @@ fn write_message(m: &Message<'_>, buf: &mut [u8]) -> Result<usize, FrameFault> {
         Message::Lsp(m) => write_lsp(m, buf),
         Message::Csnp(m) => {
             let summary = listing(OpenSummary::begin(m.source), &m.entries)?;
-            match summary.close_csnp(m.start, m.end) {
+            match summary.close_csnp(m.range.start, m.range.end) {
                 Ok(closed) => closed.write(buf),
                 Err(refusal) => Err(refusal.fault),
             }

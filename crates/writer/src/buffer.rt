@@ -25,7 +25,7 @@ pub(crate) fn header_octets(kind: Kind, behind: usize) -> [u8; 10]
 {
     let size = kind.header_size();
     let [high, low] = ((size + behind) as u16).to_be_bytes();
-    [0x83, size as u8, 1, 0, kind.octet(), 1, 0, 0, high, low]
+    [0x83, size as u8, 1, 0, u8::from(kind), 1, 0, 0, high, low]
 }
 
 // A number of 32 bits in four octets.

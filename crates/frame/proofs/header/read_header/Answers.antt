@@ -5,8 +5,8 @@ use Rattle.frame.proofs.Answering.{header-fixed}
 use Rattle.frame.specs.Reading.{fixed, wrong_octet}
 use Rattle.frame.proofs.header.read_header.Goals as goal
 
-pub returns-in_err-check_fixed : goal.returns-in_err-check_fixed
-returns-in_err-check_fixed c =
+pub returns-in_err-check_fixed-clause-value : goal.returns-in_err-check_fixed-clause-value
+returns-in_err-check_fixed-clause-value c =
     let p = err_from_is_err_and c.from_residual.result c.from_residual.ensures.1 in
     let f = c.args.f.now in
     rw (p.1, p.2)
