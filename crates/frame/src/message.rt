@@ -15,7 +15,7 @@ pub struct Lsp<'a> {
 }
 
 // A record as a summary lists it.
-#[derive(Clone, Copy)]
+#[derive(Clone, Copy, PartialEq, Eq, Debug, Default)]
 pub struct Entry {
     pub lifetime: u16,
     pub id: LspId,
