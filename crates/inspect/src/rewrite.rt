@@ -1,6 +1,7 @@
 // Frames that were read, written back.
 use fault::FrameFault;
 use frame::{Entries, Message};
+use octets::IdRange;
 use writer::{OpenSummary, write_lsp};
 
 // A summary that lists these entries.
@@ -23,7 +24,10 @@ fn write_message(m: &Message<'_>, buf: &mut [u8]) -> Result<usize, FrameFault> {
         Message::Lsp(m) => write_lsp(m, buf),
         Message::Csnp(m) => {
             let summary = listing(OpenSummary::begin(m.source), &m.entries)?;
-            match summary.close_csnp(m.start, m.end) {
+            match summary.close_csnp(IdRange {
+                start: m.start,
+                end: m.end,
+            }) {
                 Ok(closed) => closed.write(buf),
                 Err(refusal) => Err(refusal.fault),
             }

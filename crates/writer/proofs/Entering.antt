@@ -1,5 +1,5 @@
 -- Entries that are taken one after another.
-use Rattle.std.proofs.Common.{Some, Option, MatchOption, Bool, Bor, ◌≡◌, ℕ, suc, ◌+◌, ◌-◌, ◌*◌, ◌^◌, ◌<◌, ◌≤◌, true, false, not, ltb, leb, List, [], ◌∷◌, ◌++◌, map, length, get_or, take, None, sym, refl, ap, ◌∙◌, arith, ltb-false, le-ltb, le-leb, leb-false}
+use Rattle.std.proofs.Common.{Some, Option, MatchOption, Bool, Bor, ◌||◌, ◌≡◌, ℕ, suc, ◌+◌, ◌-◌, ◌*◌, ◌^◌, ◌<◌, ◌≤◌, true, false, not, ltb, leb, List, [], ◌∷◌, ◌++◌, map, length, get_or, take, None, sym, refl, ap, ◌∙◌, arith, le-ltb}
 use Rattle.std.specs.List.{slice_get}
 use Rattle.std.specs.Option.{option_map, option_copied}
 use Rattle.std.proofs.lemmas.Bool.Decides.{nat_tests}
@@ -11,9 +11,6 @@ use Rattle.octets.specs.Octets.{value}
 use Rattle.frame.specs.declared.message.Entry.{Entry}
 use Rattle.frame.specs.Messages.{SnpEntry, entry_octets, entries_octets, tail_octets}
 use Rattle.frame.specs.Meaning.{entry_said}
-use Rattle.frame.specs.Reading.{last_id}
-use Rattle.frame.proofs.Heads.{or_off}
-use Rattle.frame.proofs.EntryLists.{and_on as and_both}
 use Rattle.writer.specs.Listing.{entry_right, rises, next_low, entry_fault}
 
 -- what an element past the end is taken as
@@ -55,33 +52,25 @@ not_over (x ∷ xs) i o b h k = by o (ap (option_map above) h ∙ ap (λ n. opti
         k ∙ sym (over_or_not (value i) (value y.now.id)) ∙ ap (ltb (value i)) l
 
 -- one entry more at the end
-pub rises_push : (low : ℕ) (es : List Entry) (e : Entry) → rises low es ≡ true → next_low low es ≤ value e.id → entry_right e ≡ true →
-    rises low (es ++ e ∷ []) ≡ true
-rises_push low [] e h n r = rw (le-leb low (value e.id) n, r) refl
-rises_push low (x ∷ es) e h n r =
-    let a = and_both (leb low (value x.id)) _ h in
-    let b = and_both (entry_right x) _ a.1 in
-    rw (a.0, b.0) (rises_push (value x.id + 1) es e b.1 n r)
+pub rises_push :
+    (low : ℕ) (es : List Entry) (e : Entry)
+    → rises low es ≡ true
+    → next_low low es ≤ value e.id
+    → entry_right e ≡ true
+    → rises low (es ++ e ∷ []) ≡ true
+rises_push low [] e h n r = grind (arith, nat_tests)
+rises_push low (x ∷ es) e h n r = grind (arith, nat_tests, rises_push (value x.id + 1) es e)
 
-pub entry_is_right : (e : Entry) → e.lifetime ≤ 1200 → value e.id < 256 ^ 8 → e.number < 256 ^ 4 → entry_right e ≡ true
-entry_is_right e l i n =
-    rw (le-leb e.lifetime 1200 l, le-leb (value e.id) last_id (omega arith), le-leb e.number 4294967295 (omega arith)) refl
-
--- an entry that is not refused
-pub record Passes (es : List Entry) (e : Entry) : Type 0 where
-  pub room : length es < 15
-  pub lifetime : e.lifetime ≤ 1200
-  pub over : next_low 0 es ≤ value e.id
-
-pub passes : (es : List Entry) (e : Entry) → entry_fault es e ≡ None → Passes es e
-passes es e h =
-    let a = or_off (leb 15 (length es)) _ (fails_not _ Summary h) in
-    let b = or_off (ltb 1200 e.lifetime) (ltb (value e.id) (next_low 0 es)) a.1 in
-    record {
-      room = leb-false 15 (length es) a.0;
-      lifetime = ltb-false 1200 e.lifetime b.0;
-      over = ltb-false (value e.id) (next_low 0 es) b.1;
-    }
+-- an entry that is not refused is right, and over the last
+pub taken_right :
+    (es : List Entry) (e : Entry)
+    → entry_fault es e ≡ None
+    → value e.id < 256 ^ 8
+    → e.number < 256 ^ 4
+    → (entry_right e ≡ true) × (next_low 0 es ≤ value e.id)
+taken_right es e h i n =
+    let a : (leb 15 (length es) || (ltb 1200 e.lifetime || ltb (value e.id) (next_low 0 es))) ≡ false = fails_not _ Summary h in
+    (grind (arith, nat_tests), grind (arith, nat_tests))
 
 -- the octets of entries, one after another
 entries_push : (es : List SnpEntry) (e : SnpEntry) → entries_octets (es ++ e ∷ []) ≡ entries_octets es ++ entry_octets e
@@ -95,12 +84,3 @@ entries_more xs i h =
     (ap (λ (es : List Entry). entries_octets (map entry_said es)) (take_more xs i blank h)
     ∙ ap entries_octets (map-append entry_said (take i xs) (get_or xs i blank ∷ []))
     ∙ entries_push (map entry_said (take i xs)) (entry_said (get_or xs i blank)))
-
--- a tail of entries by their octets
-pub tail_is : (xs : List Entry) → 1 ≤ length xs → 9 ∷ 16 * length xs ∷ entries_octets (map entry_said xs) ≡ tail_octets (map entry_said xs)
-tail_is [] h = absurd (omega arith)
-tail_is (x ∷ xs) h = ap (λ (n : ℕ). 9 ∷ 16 * suc n ∷ entries_octets (map entry_said (x ∷ xs))) (sym (length-map xs entry_said))
-
-pub no_tail_is : (xs : List Entry) → length xs ≡ 0 → [] ≡ tail_octets (map entry_said xs)
-no_tail_is [] h = refl
-no_tail_is (x ∷ xs) h = absurd (omega arith)

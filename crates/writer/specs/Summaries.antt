@@ -1,5 +1,5 @@
 -- What summaries say.
-use Rattle.std.specs.Prelude.{◌≡◌, ℕ, ◌+◌, ◌*◌, ◌^◌, ◌<◌, cond, List, [], ◌∷◌, ◌++◌, map, Some, None, Ok, Err, Result, ◌==◌}
+use Rattle.std.specs.Prelude.{◌≡◌, ℕ, ◌+◌, ◌*◌, ◌^◌, ◌<◌, if◌then◌else◌, List, [], ◌∷◌, ◌++◌, map, Some, None, Ok, Err, Result, ◌==◌}
 use Rattle.octets.specs.Octets.{value, octets}
 use Rattle.octets.specs.declared.ids.IdRange.{IdRange}
 use Rattle.frame.specs.declared.message.Entry.{Entry}
@@ -38,7 +38,7 @@ Closes s r (Err x) = (range_fault (listed s) r ≡ Some x.fault) × (x.summary �
 
 -- the octets of a summary's entries, behind the header
 abbrev pub tail_size : ℕ → ℕ
-tail_size count = cond (count == 0) 0 (2 + 16 * count)
+tail_size count = if count == 0 then 0 else 2 + 16 * count
 
 -- the octets in front of the entries, so many standing behind the header
 abbrev pub head_octets : Scope → ℕ → ℕ → List ℕ

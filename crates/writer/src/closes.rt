@@ -41,7 +41,7 @@ impl ClosedSummary {
         ensures is { result ≡ encode (summary_said self.now) }
         ensures fits { Fits (summary_said self.now) }
     {
-        let entries = self.listing.entries.as_slice();
+        let entries = &self.listing.entries;
         let mut frame = head(self.listing.source, self.scope, tail_len(entries.len()));
         frame.put_tail(entries);
         frame

@@ -24,7 +24,7 @@ impl Model for FrameOctets {
 }
 
 impl FrameOctets {
-    // A frame's header, so many octets standing behind it.
+    // The octets that a frame of a kind begins with, so many standing behind its header.
     pub(crate) fn headed(kind: Kind, behind: usize) -> FrameOctets
         requires { header_size kind + behind ≤ 275 }
         ensures { result ≡ header kind behind }
@@ -76,7 +76,7 @@ impl FrameOctets {
     pub(crate) fn as_slice(&self) -> &[u8]
         ensures { result.now ≡ self.now }
     {
-        self.octets.as_slice()
+        &self.octets
     }
 
     // Copies them into a buffer's front, and answers how many they are.
@@ -86,7 +86,7 @@ impl FrameOctets {
         ensures count { result ≡ length self.now }
     {
         let n = self.octets.len();
-        buf[0..n].copy_from_slice(self.octets.as_slice());
+        buf[..n].copy_from_slice(&self.octets);
         n
     }
 }

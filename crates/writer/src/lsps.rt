@@ -10,7 +10,7 @@ use fault::FrameFault;
 use frame::{Entry, FrameReader, Kind, Lsp};
 use octets::{CheckOctets, Sums};
 
-// The frame that says an LSP. What it says of the record stands as in an entry of a summary.
+// The frame that says an LSP. Octets 10 to 25 are those of an entry.
 fn lsp_octets(m: &Lsp<'_>) -> FrameOctets
     requires { length m.now.body.now ≤ 248 }
     ensures is { result ≡ encode (lsp (lsp_said m.now)) }
@@ -49,9 +49,12 @@ pub fn computed_check(m: &Lsp<'_>) -> CheckOctets
     ensures is { result ≡ check_octets 13 (covered_part (lsp_said m.now)) }
     ensures right { right 13 (covered_part (with_check_octets result (lsp_said m.now))) ≡ true }
 {
-    let head = Sums::new().over(&m.id).over(&m.number.to_be_bytes());
-    let all = head.over(&[0, 0, m.flags]).over(m.body);
-    all.octets(behind_first(m))
+    Sums::new()
+        .over(&m.id)
+        .over(&m.number.to_be_bytes())
+        .over(&[0, 0, m.flags])
+        .over(m.body)
+        .octets(behind_first(m))
 }
 
 // How many covered octets stand behind the first check octet.

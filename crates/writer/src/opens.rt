@@ -32,8 +32,8 @@ impl OpenSummary {
         ensures is { result ≡ unless (entry_fault (listed self.now) e) tt }
         ensures under { (value e.id < 256 ^ 8) × (e.number < 256 ^ 4) }
     {
-        let entries = self.listing.entries.as_slice();
-        if is_not_over(entries, e.id) || entries.len() >= 15 || e.lifetime > 1200 {
+        let entries = &self.listing.entries;
+        if is_not_over(entries, e.id) || entries.is_full() || e.lifetime > 1200 {
             return Err(FrameFault::Summary);
         }
         Ok(())
@@ -59,7 +59,7 @@ impl OpenSummary {
     pub fn check_range(&self, range: IdRange) -> Result<(), FrameFault>
         ensures { result ≡ unless (range_fault (listed self.now) range) tt }
     {
-        if range.is_empty() || !are_inside(self.listing.entries.as_slice(), range) {
+        if range.is_empty() || !are_inside(&self.listing.entries, range) {
             return Err(FrameFault::Summary);
         }
         Ok(())
@@ -85,7 +85,7 @@ impl OpenSummary {
         self.closed(Scope::Psnp)
     }
 
-    // Closes it over what its entries suit.
+    // Closes it with a scope that its entries suit.
     fn closed(self, scope: Scope) -> ClosedSummary
         requires { in_scope scope (listed self) ≡ true }
         ensures { summary_said result ≡ said_in scope (value self.listing.source) (map entry_said (listed self)) }

@@ -13,13 +13,13 @@ returns c =
     let id = c.args.m.now.id in
     let e : c.octets.result ≡ check_octets 13 (covered_part m) =
     c.octets.ensures
-    ∙ check_pieces m id c.to_be_bytes.result c.over-all.result _ (by_value id 8 (omega arith) (search rules)).0
+    ∙ check_pieces m id c.to_be_bytes.result c.over-4.result _ (by_value id 8 (omega arith) (search rules)).0
     (c.to_be_bytes.ensures ∙ four_octets m.number)
-    (c.over-all.ensures
+    (c.over-4.ensures
     ∙ ap (λ (s : Sums). sums_then s m.body)
-    (c.over-2.ensures
+    (c.over-3.ensures
     ∙ ap (λ (s : Sums). sums_then s (0 ∷ 0 ∷ m.flags ∷ []))
-    (c.over-head.ensures
+    (c.over-2.ensures
     ∙ ap (λ (s : Sums). sums_then s c.to_be_bytes.result)
     (c.over.ensures ∙ ap (λ (s : Sums). sums_then s id) c.new.ensures))))
     c.behind_first.ensures

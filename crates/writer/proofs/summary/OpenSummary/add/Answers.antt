@@ -2,16 +2,13 @@ use Rattle.std.proofs.Common.{sym, ap, ◌∙◌}
 use Rattle.fault.proofs.Laws.{unless_ok}
 use Rattle.writer.specs.Listing.{rises}
 use Rattle.writer.specs.Summaries.{listed}
-use Rattle.writer.proofs.Entering.{passes, rises_push, entry_is_right}
+use Rattle.writer.proofs.Entering.{rises_push, taken_right}
 use Rattle.writer.proofs.summary.OpenSummary.add.Goals as goal
 
 pub invariant_of-self : goal.invariant_of-self
 invariant_of-self c =
     let e = c.args.e in
     let s = c.args.self in
-    let p = passes (listed s) e (unless_ok _ _ _ (sym c.in-Ok.ensures.is)) in
     let u = c.in-Ok.ensures.under in
-    record {
-      right = ap (rises 0) c.push.ensures.items
-          ∙ rises_push 0 (listed s) e s.listing.right p.over (entry_is_right e p.lifetime u.0 u.1);
-    }
+    let p = taken_right (listed s) e (unless_ok _ _ _ (sym c.in-Ok.ensures.is)) u.0 u.1 in
+    record { right = ap (rises 0) c.push.ensures.items ∙ rises_push 0 (listed s) e s.listing.right p.1 p.0 }
