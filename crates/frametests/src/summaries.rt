@@ -203,10 +203,9 @@ fn ranges(rt: HostRuntime) -> Result<(), Fail> {
     let heap = rt.alloc();
     for (count, start, end, right) in &RANGES {
         let summary = listed(*count)?;
-        let range = IdRange {
-            start: *start,
-            end: *end,
-        };
+        let start = *start;
+        let end = *end;
+        let range = IdRange { start, end };
         assert_eq!(rt; summary.check_range(range).is_ok(), *right);
         match summary.close_csnp(range) {
             Ok(_) => assert!(rt; *right),

@@ -24,10 +24,9 @@ fn write_message(m: &Message<'_>, buf: &mut [u8]) -> Result<usize, FrameFault> {
         Message::Lsp(m) => write_lsp(m, buf),
         Message::Csnp(m) => {
             let summary = listing(OpenSummary::begin(m.source), &m.entries)?;
-            match summary.close_csnp(IdRange {
-                start: m.start,
-                end: m.end,
-            }) {
+            let start = m.start;
+            let end = m.end;
+            match summary.close_csnp(IdRange { start, end }) {
                 Ok(closed) => closed.write(buf),
                 Err(refusal) => Err(refusal.fault),
             }
