@@ -1,15 +1,15 @@
 -- Entries that are taken one after another.
-use Rattle.std.proofs.Common.{Some, Option, MatchOption, Bool, Bor, ◌||◌, ◌≡◌, ℕ, suc, ◌+◌, ◌-◌, ◌*◌, ◌^◌, ◌<◌, ◌≤◌, true, false, not, ltb, leb, List, [], ◌∷◌, ◌++◌, map, length, get_or, take, None, sym, refl, ap, ◌∙◌, arith, le-ltb}
+use Rattle.std.proofs.Common.{Some, Option, MatchOption, Bool, Bor, ◌||◌, ◌≡◌, ℕ, ◌+◌, ◌-◌, ◌^◌, ◌<◌, ◌≤◌, true, false, not, ltb, leb, List, [], ◌∷◌, ◌++◌, map, length, get_or, take, None, sym, refl, ap, ◌∙◌, arith, le-ltb}
 use Rattle.std.specs.List.{slice_get}
 use Rattle.std.specs.Option.{option_map, option_copied}
 use Rattle.std.proofs.lemmas.Bool.Decides.{nat_tests}
 use Rattle.std.proofs.lemmas.Option.{none-some, same_Some}
-use Rattle.std.proofs.lemmas.List.{take_more, map-append, length-map}
+use Rattle.std.proofs.lemmas.List.{take_more, map-append}
 use Rattle.fault.specs.declared.FrameFault.TheVariants.{Summary}
 use Rattle.fault.proofs.Laws.{fails_not}
 use Rattle.octets.specs.Octets.{value}
 use Rattle.frame.specs.declared.message.Entry.{Entry}
-use Rattle.frame.specs.Messages.{SnpEntry, entry_octets, entries_octets, tail_octets}
+use Rattle.frame.specs.Messages.{SnpEntry, entry_octets, entries_octets}
 use Rattle.frame.specs.Meaning.{entry_said}
 use Rattle.writer.specs.Listing.{entry_right, rises, next_low, entry_fault}
 
