@@ -1,7 +1,7 @@
 // Making and writing summaries.
 use crate::frames::*;
 use frame::Entry;
-use octets::{CheckOctets, LspId};
+use octets::{CheckOctets, IdRange, LspId};
 use std::alloc::Global;
 use std::process::Abort;
 use std::test::Fail;
@@ -41,7 +41,7 @@ fn without(rt: &impl Abort, summary: OpenSummary, e: Entry) -> Result<OpenSummar
 
 // Closes a CSNP whose range is right.
 fn csnp(summary: OpenSummary, start: LspId, end: LspId) -> Result<ClosedSummary, Fail> {
-    match summary.close_csnp(start, end) {
+    match summary.close_csnp(IdRange { start, end }) {
         Ok(closed) => Ok(closed),
         Err(_) => Err(Fail::new("a range is refused")),
     }
@@ -203,8 +203,11 @@ fn ranges(rt: HostRuntime) -> Result<(), Fail> {
     let heap = rt.alloc();
     for (count, start, end, right) in &RANGES {
         let summary = listed(*count)?;
-        assert_eq!(rt; summary.check_range(*start, *end).is_ok(), *right);
-        match summary.close_csnp(*start, *end) {
+        let start = *start;
+        let end = *end;
+        let range = IdRange { start, end };
+        assert_eq!(rt; summary.check_range(range).is_ok(), *right);
+        match summary.close_csnp(range) {
             Ok(_) => assert!(rt; *right),
             Err(refused) => {
                 assert!(rt; !*right);

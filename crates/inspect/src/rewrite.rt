@@ -20,7 +20,7 @@ fn write_message(m: &Message<'_>, buf: &mut [u8]) -> Result<usize, FrameFault> {
         Message::Lsp(m) => write_lsp(m, buf),
         Message::Csnp(m) => {
             let summary = listing(OpenSummary::begin(m.source), &m.entries)?;
-            match summary.close_csnp(m.range.start, m.range.end) {
+            match summary.close_csnp(m.range) {
                 Ok(closed) => closed.write(buf),
                 Err(refusal) => Err(refusal.fault),
             }

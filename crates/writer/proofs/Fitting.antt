@@ -1,61 +1,59 @@
 -- A closed summary can be said, and its octets are those of its parts.
-use Rattle.std.proofs.Common.{◌≡◌, ℕ, suc, ◌+◌, ◌*◌, ◌^◌, ◌<◌, ◌≤◌, Bool, true, false, cond, ◌&&◌, eqb, leb, List, [], ◌∷◌, ◌++◌, map, length, sym, refl, ap, ◌∙◌, arith, ne_eqb, leb-true}
+use Rattle.std.proofs.Common.{◌≡◌, ℕ, ◌+◌, ◌^◌, ◌<◌, ◌≤◌, true, not, List, [], ◌∷◌, ◌++◌, map, length, sym, refl, ap, ◌∙◌, arith}
+use Rattle.std.proofs.lemmas.Bool.{and_parts}
+use Rattle.std.proofs.lemmas.Bool.Decides.{nat_tests}
 use Rattle.std.proofs.lemmas.List.{length-map}
 use Rattle.std.specs.List.{AllByRecursion}
 use Rattle.octets.specs.Octets.{value, octets}
+use Rattle.octets.specs.declared.ids.IdRange.{IdRange}
+use Rattle.octets.specs.Ranges.{empty}
 use Rattle.frame.specs.declared.message.Entry.{Entry}
 use Rattle.frame.specs.declared.kind.Kind.TheVariants as Kind
 use Rattle.frame.specs.Messages.{SnpEntry, header, tail_octets, encode}
 use Rattle.frame.specs.Meaning.{entry_said}
 use Rattle.frame.specs.Reading.{last_id}
 use Rattle.frame.specs.Trip.{EntryFits, Rises, Fits}
-use Rattle.frame.proofs.EntryLists.{and_on as and_both, length_entries}
+use Rattle.frame.proofs.EntryLists.{length_entries}
 use Rattle.writer.specs.declared.scope.Scope.{Scope}
 use Rattle.writer.specs.declared.scope.Scope.TheVariants.{Csnp, Psnp}
 use Rattle.writer.specs.Listing.{entry_right, rises, inside, in_scope}
-use Rattle.writer.specs.Summaries.{said_in, tail_size, head_octets}
+use Rattle.writer.specs.Summaries.{said_in, tail_size, head_octets, HeadFits}
 
 entry_fits : (e : Entry) → entry_right e ≡ true → EntryFits (entry_said e)
 entry_fits e h =
-    let a = and_both (leb e.lifetime 1200) _ h in
-    let b = and_both (leb (value e.id) last_id) (leb e.number 4294967295) a.1 in
-    let i : value e.id ≤ last_id = leb-true (value e.id) last_id b.0 in
-    let n : e.number ≤ 4294967295 = leb-true e.number 4294967295 b.1 in
-    record { lifetime = leb-true e.lifetime 1200 a.0; id = omega arith; number = omega arith }
+    record { lifetime = grind (arith, nat_tests); id = grind (arith, nat_tests); number = grind (arith, nat_tests) }
 
 -- the parts of a rising list
-head_of : (low : ℕ) (e : Entry) (es : List Entry) → rises low (e ∷ es) ≡ true →
-    (low ≤ value e.id) × (entry_right e ≡ true) × (rises (value e.id + 1) es ≡ true)
-head_of low e es h =
-    let a = and_both (leb low (value e.id)) _ h in
-    let b = and_both (entry_right e) _ a.1 in
-    (leb-true low (value e.id) a.0, b.0, b.1)
+head_of :
+    (low : ℕ) (e : Entry) (es : List Entry)
+    → rises low (e ∷ es) ≡ true
+    → (low ≤ value e.id) × (entry_right e ≡ true) × (rises (value e.id + 1) es ≡ true)
+head_of low e es h = (grind (arith, nat_tests), grind (arith, nat_tests), grind (arith, nat_tests))
 
 entries_fit : (low : ℕ) (es : List Entry) → rises low es ≡ true → AllByRecursion EntryFits (map entry_said es)
 entries_fit low [] h = tt
 entries_fit low (e ∷ es) h = let p = head_of low e es h in (entry_fits e p.1, entries_fit (value e.id + 1) es p.2)
 
 -- whatever lies inside, in order
-inside_of : (start end : ℕ) (e : Entry) (es : List Entry) → inside start end (e ∷ es) ≡ true →
-    (start ≤ value e.id) × (value e.id ≤ end) × (inside start end es ≡ true)
-inside_of start end e es h =
-    let a = and_both (leb start (value e.id) && leb (value e.id) end) _ h in
-    let b = and_both (leb start (value e.id)) (leb (value e.id) end) a.0 in
-    (leb-true start (value e.id) b.0, leb-true (value e.id) end b.1, a.1)
+inside_of :
+    (r : IdRange) (e : Entry) (es : List Entry)
+    → inside r (e ∷ es) ≡ true
+    → (value r.start ≤ value e.id) × (value e.id ≤ value r.end) × (inside r es ≡ true)
+inside_of r e es h = (grind (arith, nat_tests), grind (arith, nat_tests), grind (arith, nat_tests))
 
-onward-rises : (low start end : ℕ) (es : List Entry) → rises low es ≡ true → inside start end es ≡ true → Rises low end (map entry_said es)
-onward-rises low start end [] h i = tt
-onward-rises low start end (e ∷ es) h i =
+onward-rises : (low : ℕ) (r : IdRange) (es : List Entry) → rises low es ≡ true → inside r es ≡ true → Rises low (value r.end) (map entry_said es)
+onward-rises low r [] h i = tt
+onward-rises low r (e ∷ es) h i =
     let p = head_of low e es h in
-    let q = inside_of start end e es i in
-    (p.0, q.1, onward-rises (value e.id + 1) start end es p.2 q.2)
+    let q = inside_of r e es i in
+    (p.0, q.1, onward-rises (value e.id + 1) r es p.2 q.2)
 
-range_rises : (start end : ℕ) (es : List Entry) → rises 0 es ≡ true → inside start end es ≡ true → Rises start end (map entry_said es)
-range_rises start end [] h i = tt
-range_rises start end (e ∷ es) h i =
+range_rises : (r : IdRange) (es : List Entry) → rises 0 es ≡ true → inside r es ≡ true → Rises (value r.start) (value r.end) (map entry_said es)
+range_rises r [] h i = tt
+range_rises r (e ∷ es) h i =
     let p = head_of 0 e es h in
-    let q = inside_of start end e es i in
-    (q.0, q.1, onward-rises (value e.id + 1) start end es p.2 q.2)
+    let q = inside_of r e es i in
+    (q.0, q.1, onward-rises (value e.id + 1) r es p.2 q.2)
 
 whole_rises : (low : ℕ) (es : List Entry) → rises low es ≡ true → Rises low last_id (map entry_said es)
 whole_rises low [] h = tt
@@ -64,43 +62,41 @@ whole_rises low (e ∷ es) h =
     let i : value e.id < 256 ^ 8 = (entry_fits e p.1).id in
     (p.0, omega arith, whole_rises (value e.id + 1) es p.2)
 
-pub summary_fits : (s : Scope) (source : ℕ) (es : List Entry) → source < 256 ^ 7 → length es ≤ 15 → rises 0 es ≡ true → in_scope s es ≡ true →
-    Fits (said_in s source (map entry_said es))
-summary_fits (Csnp start end) source es hs few r c =
-    let a = and_both (leb (value start) (value end)) _ c in
-    let b = and_both (leb (value end) last_id) _ a.1 in
-    let l : value start ≤ value end = leb-true (value start) (value end) a.0 in
-    let m : value end ≤ last_id = leb-true (value end) last_id b.0 in
-    let n : length (map entry_said es) ≡ length es = length-map es entry_said in
+pub summary_fits :
+    (s : Scope) (source : ℕ) (es : List Entry)
+    → HeadFits s source
+    → length es ≤ 15
+    → rises 0 es ≡ true
+    → in_scope s es ≡ true
+    → Fits (said_in s source (map entry_said es))
+summary_fits (Csnp r) source es k few h c =
+    let a = and_parts (not (empty r)) (inside r es) c in
     record {
-      source = hs;
-      start = omega arith;
-      end = omega arith;
-      range = l;
-      entries = entries_fit 0 es r;
-      few = omega arith;
-      rising = range_rises (value start) (value end) es r b.1;
+      source = k.0;
+      start = k.1;
+      end = k.2;
+      range = grind (arith, nat_tests, a.0);
+      entries = entries_fit 0 es h;
+      few = omega (arith, length-map es entry_said);
+      rising = range_rises r es h a.1;
     }
-summary_fits Psnp source es hs few r c =
-    let n : length (map entry_said es) ≡ length es = length-map es entry_said in
-    record { source = hs; entries = entries_fit 0 es r; few = omega arith; rising = whole_rises 0 es r }
+summary_fits Psnp source es k few h c =
+    record {
+      source = k;
+      entries = entries_fit 0 es h;
+      few = omega (arith, length-map es entry_said);
+      rising = whole_rises 0 es h;
+    }
 
 length_tail_is : (es : List SnpEntry) → length (tail_octets es) ≡ tail_size (length es)
 length_tail_is [] = refl
-length_tail_is (e ∷ es) =
-    let n : eqb (suc (length es)) 0 ≡ false = ne_eqb (suc (length es)) 0 (λ z. omega arith) in
-    let l : length (tail_octets (e ∷ es)) ≡ 2 + 16 * suc (length es) = omega (arith, length_entries (e ∷ es)) in
-    l ∙ sym (ap (λ (b : Bool). cond b 0 (2 + 16 * suc (length es))) n)
+length_tail_is (e ∷ es) = grind (arith, nat_tests, length_entries (e ∷ es))
 
 pub summary_octets : (s : Scope) (source : ℕ) (es : List Entry) →
     head_octets s source (tail_size (length es)) ++ tail_octets (map entry_said es) ≡ encode (said_in s source (map entry_said es))
-summary_octets (Csnp start end) source es =
-    ap (λ (n : ℕ). (header Kind.Csnp n ++ octets 7 source ++ octets 8 (value start) ++ octets 8 (value end)) ++ tail_octets (map entry_said es))
+summary_octets (Csnp r) source es =
+    ap (λ (n : ℕ). (header Kind.Csnp n ++ octets 7 source ++ octets 8 (value r.start) ++ octets 8 (value r.end)) ++ tail_octets (map entry_said es))
     (sym (length_tail_is (map entry_said es) ∙ ap tail_size (length-map es entry_said)))
 summary_octets Psnp source es =
     ap (λ (n : ℕ). (header Kind.Psnp n ++ octets 7 source) ++ tail_octets (map entry_said es))
     (sym (length_tail_is (map entry_said es) ∙ ap tail_size (length-map es entry_said)))
-
-pub head_short : (s : Scope) (source behind : ℕ) → length (head_octets s source behind) ≤ 33
-head_short (Csnp start end) source behind = omega arith
-head_short Psnp source behind = omega arith

@@ -1,16 +1,16 @@
 -- What writing a message answers.
-use Rattle.std.proofs.Common.{◌≡◌, ℕ, ◌^◌, ◌<◌, ◌≤◌, Bool, true, false, not, ◌||◌, eqb, ltb, List, length, Some, None, Ok, Err, Option, Result, sym, refl, ap, ◌∙◌, arith, le-ltb, lt-ltb}
+use Rattle.std.proofs.Common.{◌≡◌, ℕ, ◌^◌, ◌<◌, ◌≤◌, Bool, true, false, ltb, List, length, Some, None, Ok, Err, Option, Result, sym, refl, ap, ◌∙◌, arith, le-ltb, lt-ltb}
 use Rattle.std.specs.Option.{option_or}
+use Rattle.std.proofs.lemmas.Bool.Decides.{nat_tests}
 use Rattle.fault.specs.declared.FrameFault.{FrameFault}
 use Rattle.fault.specs.declared.FrameFault.TheVariants.{Length, Size}
 use Rattle.fault.specs.Order.{frame_rank, before, sooner, fails, first_fault}
 use Rattle.fault.specs.Refusals.{frame_place}
 use Rattle.fault.proofs.Laws.{foremost_over, before_trans}
-use Rattle.octets.specs.Octets.{field}
 use Rattle.frame.specs.declared.kind.Kind.{Kind}
 use Rattle.frame.specs.declared.kind.Kind.TheVariants.{Lsp, Csnp, Psnp}
 use Rattle.frame.specs.Messages.{LspPdu, Pdu, lsp, csnp, psnp, encode}
-use Rattle.frame.specs.Reading.{kind_of, size_of, length_wrong, header_faults, kind_faults, refusal, said, answered, decode}
+use Rattle.frame.specs.Reading.{kind_of, length_wrong, header_faults, kind_faults, refusal, said, answered, decode}
 use Rattle.frame.proofs.Answering.{first_header, first_kind, first_refusal, kind_rising}
 use Rattle.frame.proofs.Lsps.{lays, lsp_says}
 use Rattle.writer.specs.Writing.{write_fault, in_front, Writes}
@@ -73,19 +73,19 @@ fault_room : (room : ℕ) (m : Pdu) → 275 ≤ room → write_fault room m ≡ 
 fault_room room m h = rw (le-ltb room 275 h) refl
 
 refused : (m : Pdu) (old : List ℕ) (e : FrameFault) → write_fault (length old) m ≡ Some e → Writes m old old (Err e)
-refused m old e h = record { is = rw h refl; after = refl; back = λ z. let n : ◌≡◌ {A = ℕ} 0 1 = cc in absurd (omega arith) }
+refused m old e h = record { is = rw h refl; after = refl; back = λ z. cc }
 
 pub too_small : (m : Pdu) (old : List ℕ) → length old < 275 → Writes m old old (Err Size)
 too_small m old h = refused m old Size (fault_small (length old) m h)
 
 -- what reading the frame refuses
 answered_err : (r : Option FrameFault) (k : Kind) (f : List ℕ) (e : FrameFault) → answered r (Some k) f ≡ Err e → r ≡ Some e
-answered_err None k f e h = let z : ◌≡◌ {A = ℕ} 0 1 = cc in absurd (omega arith)
+answered_err None k f e h = cc
 answered_err (Some x) k f e h = cc
 
 answered_ok : (r : Option FrameFault) (k : Kind) (f : List ℕ) (m : Pdu) → answered r (Some k) f ≡ Ok m → (r ≡ None) × (said k f ≡ m)
 answered_ok None k f m h = (refl, cc)
-answered_ok (Some x) k f m h = let z : ◌≡◌ {A = ℕ} 0 1 = cc in absurd (omega arith)
+answered_ok (Some x) k f m h = (cc, cc)
 
 as_kind : (m : Pdu) (x : Result Pdu FrameFault) → decode (encode m) ≡ x → answered (refusal_of m) (Some (kind_as m)) (encode m) ≡ x
 as_kind m x e = ap (λ (o : Option Kind). answered (refusal_of m) o (encode m)) (sym (kind_written m)) ∙ e
@@ -111,16 +111,10 @@ lsp_again m x ht hi hn hb d =
     d ∙ ap Ok (sym a.1) ∙ ap (λ (y : LspPdu). Ok (lsp y)) (lsp_says (encode (lsp m)) m (lays m ht hi hn hb))
 
 -- an LSP whose body is too long for a frame
-four_true : (a b c : Bool) → a || (b || (c || true)) ≡ true
-four_true true b c = refl
-four_true false true c = refl
-four_true false false true = refl
-four_true false false false = refl
-
 pub too_long : (m : LspPdu) (old : List ℕ) → 275 ≤ length old → 248 < length m.body → Writes (lsp m) old old (Err Length)
 too_long m old h b =
     let f = encode (lsp m) in
     let l : ltb 275 (length f) ≡ true = lt-ltb 275 (length f) (omega arith) in
-    let w : length_wrong f ≡ true = rw l (four_true (ltb (length f) 10) (not (eqb (field 8 2 f) (length f))) (ltb (length f) (size_of (kind_of f)))) in
+    let w : length_wrong f ≡ true = grind (arith, nat_tests, l) in
     let r : refusal_of (lsp m) ≡ Some Length = first_refusal f ∙ rw (header-written (lsp m), w) refl in
     refused (lsp m) old Length (fault_room (length old) (lsp m) h ∙ r)

@@ -1,4 +1,3 @@
-pub mod Places
 pub mod Writing
 pub mod Listing
 pub mod Summaries

@@ -1,5 +1,5 @@
 -- Writing a message into a buffer's front.
-use Rattle.std.specs.Prelude.{◌≡◌, ℕ, ◌^◌, ◌<◌, true, cond, List, ◌∷◌, ◌++◌, length, drop, is_ok, Ok, Option, Result, nat_lt}
+use Rattle.std.specs.Prelude.{◌≡◌, ℕ, ◌^◌, ◌<◌, true, if◌then◌else◌, List, ◌∷◌, ◌++◌, length, drop, is_ok, Ok, Option, Result, nat_lt}
 use Rattle.fault.specs.declared.FrameFault.{FrameFault}
 use Rattle.fault.specs.declared.FrameFault.TheVariants.{Size}
 use Rattle.fault.specs.Order.{fails, first_fault, unless}
@@ -18,7 +18,7 @@ in_front w old = w ++ drop (length w) old
 -- what writing a message answers and leaves
 pub record Writes (m : Pdu) (old new : List ℕ) (answer : Result ℕ FrameFault) : Type 0 where
   pub is : answer ≡ unless (write_fault (length old) m) (length (encode m))
-  pub after : new ≡ cond (is_ok answer) (in_front (encode m) old) old
+  pub after : new ≡ (if is_ok answer then in_front (encode m) old else old)
   -- what was written reads back as it was
   pub back : is_ok answer ≡ true → decode (encode m) ≡ Ok m
 

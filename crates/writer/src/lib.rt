@@ -1,8 +1,8 @@
 // Writing: LSPs and summaries into the caller's buffer.
 #![tactic(auto)]
 
-mod buffer;
 mod closes;
+mod frame_octets;
 mod lsps;
 mod opens;
 mod scope;

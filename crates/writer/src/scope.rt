@@ -1,9 +1,25 @@
 // What a closed summary covers.
-use octets::LspId;
+ghost use Rattle.std.specs.Prelude.{◌≡◌};
+ghost use Rattle.writer.specs.Listing.{scope_kind};
 
-// A CSNP lists all records from start to end, a PSNP some records.
-#[derive(Clone, Copy)]
-pub enum Scope {
-    Csnp { start: LspId, end: LspId },
+use frame::Kind;
+use octets::IdRange;
+
+// A CSNP lists all records of a range, a PSNP some records.
+#[derive(Clone, Copy, PartialEq, Eq, Debug)]
+pub(crate) enum Scope {
+    Csnp(IdRange),
     Psnp,
+}
+
+impl Scope {
+    // The kind of frame that covers it.
+    pub(crate) fn kind(self) -> Kind
+        ensures { result ≡ scope_kind self }
+    {
+        match self {
+            Scope::Csnp(_) => Kind::Csnp,
+            Scope::Psnp => Kind::Psnp,
+        }
+    }
 }

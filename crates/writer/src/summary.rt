@@ -1,41 +1,37 @@
 // Summaries as they are made.
-ghost use Rattle.std.specs.Prelude.{◌≡◌, ◌^◌, ◌<◌, ◌≤◌, true, length, take};
-ghost use Rattle.octets.specs.Octets.{value};
+ghost use Rattle.std.specs.Prelude.{◌≡◌, true};
 ghost use Rattle.writer.specs.Listing.{rises, in_scope};
 
 use crate::scope::Scope;
+use arrayvec::ArrayVec;
 use fault::FrameFault;
 use frame::Entry;
 use octets::SourceId;
 
-// A summary that was begun and takes entries: at most 15, their identifiers rising.
-#[derive(Drop)]
-pub struct OpenSummary {
+// What a summary lists: at most 15 entries, their identifiers rising.
+#[derive(Drop, Debug)]
+pub(crate) struct Listing {
     pub(crate) source: SourceId,
-    pub(crate) entries: [Entry; 15],
-    pub(crate) count: usize,
-    ghost sized: { value source < 256 ^ 7 },
-    ghost whole: { length entries ≡ 15 },
-    ghost few: { count ≤ 15 },
-    ghost right: { rises 0 (take count entries) ≡ true },
+    pub(crate) entries: ArrayVec<Entry, 15>,
+    ghost right: { rises 0 entries.items ≡ true },
+}
+
+// A summary that was begun and takes entries.
+#[derive(Drop, Debug)]
+pub struct OpenSummary {
+    pub(crate) listing: Listing,
 }
 
 // A summary that was closed and can be written out.
-#[derive(Drop)]
+#[derive(Drop, Debug)]
 pub struct ClosedSummary {
-    pub(crate) source: SourceId,
+    pub(crate) listing: Listing,
     pub(crate) scope: Scope,
-    pub(crate) entries: [Entry; 15],
-    pub(crate) count: usize,
-    ghost sized: { value source < 256 ^ 7 },
-    ghost whole: { length entries ≡ 15 },
-    ghost few: { count ≤ 15 },
-    ghost right: { rises 0 (take count entries) ≡ true },
-    ghost scoped: { in_scope scope (take count entries) ≡ true },
+    ghost scoped: { in_scope scope listing.entries.items ≡ true },
 }
 
 // What was refused, and the summary as it was.
-#[derive(Drop)]
+#[derive(Drop, Debug)]
 pub struct SummaryRefusal {
     pub summary: OpenSummary,
     pub fault: FrameFault,

@@ -1,9 +1,9 @@
-use Rattle.std.proofs.Common.{◌≡◌, ◌≤◌, length, sym, ap, ◌∙◌, arith}
+use Rattle.std.proofs.Common.{◌≡◌, ℕ, ◌≤◌, List, length, sym, ap, ◌∙◌, arith}
 use Rattle.std.proofs.lemmas.Result.{err_from_is_err_and}
 use Rattle.frame.specs.Messages.{lsp, encode}
 use Rattle.frame.specs.Reading.{decode}
 use Rattle.frame.specs.Meaning.{lsp_said}
-use Rattle.writer.proofs.Writes.{wrote_as, wrote_front, wrote_taken}
+use Rattle.writer.specs.Writing.{in_front}
 use Rattle.writer.proofs.WriteLaws.{too_small, too_long, as_reading, was_written, lsp_again}
 use Rattle.writer.proofs.lsps.write_lsp.Goals as goal
 
@@ -17,16 +17,16 @@ pub returns-in_err-message : goal.returns-in_err-message
 returns-in_err-message c =
     let p = err_from_is_err_and c.from_residual.result c.from_residual.ensures.1 in
     let m = lsp (lsp_said c.args.m.now) in
-    let q : c.new.result.frame.now ≡ encode m = c.new.ensures ∙ wrote_taken c.fill_lsp-n.ensures.wrote in
+    let q : c.new.result.frame.now ≡ encode m = c.new.ensures ∙ c.as_slice.ensures ∙ c.lsp_octets-frame.ensures.is in
     rw (p.1, p.2) (as_reading m _ _ (omega arith) (ap decode (sym q) ∙ c.in_err-message.ensures.reads.is))
 
 pub returns : goal.returns
 returns c =
     let l = lsp_said c.args.m.now in
-    let q : c.new.result.frame.now ≡ encode (lsp l) = c.new.ensures ∙ wrote_taken c.fill_lsp-n.ensures.wrote in
-    let z = c.fill_lsp-n.ensures.sized in
+    let f = c.lsp_octets-frame.ensures in
+    let q : c.new.result.frame.now ≡ encode (lsp l) = c.new.ensures ∙ c.as_slice.ensures ∙ f.is in
+    let z = f.sized in
     let b : length l.body ≤ 248 = omega arith in
-    let w = wrote_as (wrote_taken c.fill_lsp-n.ensures.wrote) c.put_all.ensures in
     was_written (lsp l) _ _ _ (omega arith)
     (lsp_again l _ z.lifetime z.id z.number b (ap decode (sym q) ∙ c.in_ok-message.ensures.reads.is))
-    (omega (arith, w.place)) (wrote_front w)
+    (c.copy_to.ensures.count ∙ ap length f.is) (c.copy_to.ensures.front ∙ ap (λ (w : List ℕ). in_front w c.args.buf.now) f.is)

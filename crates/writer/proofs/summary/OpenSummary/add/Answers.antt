@@ -1,28 +1,14 @@
-use Rattle.std.proofs.Common.{◌≡◌, ◌+◌, take, None, sym, refl, ap, ◌∙◌, arith, rules}
+use Rattle.std.proofs.Common.{sym, ap, ◌∙◌}
 use Rattle.fault.proofs.Laws.{unless_ok}
-use Rattle.std.proofs.lemmas.List.{take_more_set}
-use Rattle.writer.specs.Listing.{entry_fault}
-use Rattle.writer.proofs.Entering.{took_room, took_right}
+use Rattle.writer.specs.Listing.{rises}
+use Rattle.writer.specs.Summaries.{listed}
+use Rattle.writer.proofs.Entering.{rises_push, taken_right}
 use Rattle.writer.proofs.summary.OpenSummary.add.Goals as goal
 
-pub invariant_of-result : goal.invariant_of-result
-invariant_of-result c =
-    let s = c.args.self in
+pub invariant_of-self : goal.invariant_of-self
+invariant_of-self c =
     let e = c.args.e in
-    let h : entry_fault (take s.count s.entries) e ≡ None = unless_ok _ _ _ (sym c.in_default.ensures.is) in
-    let u = c.in_default.ensures.under in
-    let r = took_room s.entries s.count e (omega arith) h in
-    record {
-      sized = s.sized;
-      whole = search rules;
-      few = omega (arith, r);
-      right = took_right s.entries s.count e (omega arith) h _ c.with_entry.ensures (omega (arith, r)) s.right u.0 u.1;
-    }
-
-pub returns : goal.returns
-returns c =
     let s = c.args.self in
-    let e = c.args.e in
-    let h : entry_fault (take s.count s.entries) e ≡ None = unless_ok _ _ _ (sym c.in_default.ensures.is) in
-    let r = took_room s.entries s.count e (omega arith) h in
-    (h, refl, ap (take (s.count + 1)) c.with_entry.ensures ∙ take_more_set s.entries s.count e (omega (arith, r)))
+    let u = c.in-Ok.ensures.under in
+    let p = taken_right (listed s) e (unless_ok _ _ _ (sym c.in-Ok.ensures.is)) u.0 u.1 in
+    record { right = ap (rises 0) c.push.ensures.items ∙ rises_push 0 (listed s) e s.listing.right p.1 p.0 }
