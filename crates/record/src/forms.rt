@@ -1,7 +1,7 @@
 // What a record is, and what it says.
-ghost use Rattle.std.specs.Prelude.{◌≡◌};
+ghost use Rattle.std.specs.Prelude.{◌≡◌, Some};
 ghost use Rattle.frame.specs.Meaning.{lsp_said};
-ghost use Rattle.record.specs.Forms.{record_said, is_live, form_of, WellFormed};
+ghost use Rattle.record.specs.Forms.{record_said, is_live, form_of, form_letter, WellFormed};
 ghost use Rattle.record.specs.Saying.{WritesRecord};
 ghost use Rattle.record.specs.Order.{recency, rank, Stands};
 
@@ -9,6 +9,8 @@ use crate::form::{Form, Recency};
 use crate::record::Record;
 use fault::FrameFault;
 use frame::Lsp;
+use std::cmp::Ordering;
+use std::fmt;
 use writer::write_lsp;
 
 impl Record {
@@ -37,16 +39,13 @@ impl Record {
         ensures is { result ≡ recency number live self.now.number (is_live self.now) }
         ensures ranked { Stands result (rank number live) (rank self.now.number (is_live self.now)) }
     {
-        if number > self.number {
-            return Recency::Newer;
+        match number.cmp(&self.number) {
+            Ordering::Greater => Recency::Newer,
+            Ordering::Less => Recency::Older,
+            Ordering::Equal if number == 0 || live == (self.lifetime > 0) => Recency::Same,
+            Ordering::Equal if live => Recency::Older,
+            Ordering::Equal => Recency::Newer,
         }
-        if number < self.number {
-            return Recency::Older;
-        }
-        if number == 0 || live == (self.lifetime > 0) {
-            return Recency::Same;
-        }
-        if live { Recency::Older } else { Recency::Newer }
     }
 
     // The LSP that says it.
@@ -74,5 +73,18 @@ impl Record {
         ensures { WritesRecord self.now buf.old buf.new result }
     {
         self.written(buf)
+    }
+}
+
+// L, P or H.
+impl fmt::Display for Form {
+    ghost output = { λ f. Some (form_letter f) };
+
+    fn fmt<W: fmt::Write>(&self, f: &mut fmt::Formatter<W>) -> fmt::Result {
+        f.write_str(match self {
+            Form::Live => "L",
+            Form::Purge => "P",
+            Form::Placeholder => "H",
+        })
     }
 }
