@@ -1,5 +1,6 @@
 -- Every refusal's number, place and rank. A place is an octet's offset in a frame or a body, or 0.
-use Rattle.std.specs.Prelude.{ℕ}
+use Rattle.std.specs.Prelude.{ℕ, List, ◌++◌, codes}
+use Rattle.std.specs.Fmt.{decimal}
 use Rattle.fault.specs.declared.FrameFault.{FrameFault}
 use Rattle.fault.specs.declared.FrameFault.TheVariants.{Short, Fixed, Kind, Header, Length, Size, Field, Body, Tail, Lifetime, Number, Range, Order, Summary, Check}
 use Rattle.fault.specs.declared.CallFault.{CallFault}
@@ -66,3 +67,7 @@ call_place Inactive = 0
 call_place NoNumber = 0
 call_place ClockEnd = 0
 call_place Waiting = 0
+
+-- how a refusal is shown: `refused 4 at 8`
+abbrev pub refusal_text : ℕ → ℕ → List ℕ
+refusal_text number place = codes "refused " ++ decimal number ++ codes " at " ++ decimal place

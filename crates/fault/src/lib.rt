@@ -1,9 +1,12 @@
 // The refusals of frames and calls. Each case has a number and a place, which specs/Refusals.antt gives.
 #![tactic(auto)]
 
-ghost use Rattle.std.specs.Prelude.{◌≡◌};
+ghost use Rattle.std.specs.Prelude.{◌≡◌, Some};
 ghost use Rattle.fault.specs.declared.CallFault.TheVariants.{Frame};
-ghost use Rattle.fault.specs.Refusals.{frame_number, frame_place, call_number, call_place};
+ghost use Rattle.fault.specs.Refusals.{frame_number, frame_place, call_number, call_place, refusal_text};
+
+use std::error::Error;
+use std::fmt;
 
 // Why a frame, a body or a buffer is refused. A place is an octet's offset in the frame or body, or 0.
 #[derive(Clone, Copy, PartialEq, Eq, Debug)]
@@ -143,3 +146,43 @@ impl CallFault {
         }
     }
 }
+
+// A refusal that is to be shown, as `refused 4 at 8`.
+#[derive(Clone, Copy)]
+pub struct Refused {
+    pub number: u8,
+    pub place: usize,
+}
+
+impl fmt::Display for Refused {
+    ghost output = { λ r. Some (refusal_text r.number r.place) };
+
+    fn fmt<W: fmt::Write>(&self, f: &mut fmt::Formatter<W>) -> fmt::Result {
+        let Refused { number, place } = *self;
+        write!(f, "refused {number} at {place}")
+    }
+}
+
+impl fmt::Display for FrameFault {
+    ghost output = { λ e. Some (refusal_text (frame_number e) (frame_place e)) };
+
+    fn fmt<W: fmt::Write>(&self, f: &mut fmt::Formatter<W>) -> fmt::Result {
+        let number = self.number();
+        let place = self.place();
+        Refused { number, place }.fmt(f)
+    }
+}
+
+impl fmt::Display for CallFault {
+    ghost output = { λ e. Some (refusal_text (call_number e) (call_place e)) };
+
+    fn fmt<W: fmt::Write>(&self, f: &mut fmt::Formatter<W>) -> fmt::Result {
+        let number = self.number();
+        let place = self.place();
+        Refused { number, place }.fmt(f)
+    }
+}
+
+impl Error for FrameFault {}
+
+impl Error for CallFault {}

@@ -1,5 +1,4 @@
 pub mod Numbers
 pub mod CheckLaws
 pub mod Orders
-pub mod Parts
 pub mod FieldLaws

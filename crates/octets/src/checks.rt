@@ -4,7 +4,7 @@ ghost use Rattle.octets.specs.Checks.{sums_of, sums_then, written, made_octets, 
 ghost use Rattle.octets.specs.Worked.{Worked};
 
 // The two check octets of a frame.
-#[derive(Clone, Copy, PartialEq, Eq, Debug)]
+#[derive(Clone, Copy, PartialEq, Eq, Debug, Default)]
 pub struct CheckOctets {
     pub x: u8,
     pub y: u8,

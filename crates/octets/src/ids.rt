@@ -2,6 +2,7 @@
 ghost use Rattle.std.specs.Prelude.{◌≡◌, ◌<◌, Decides, nat_lt};
 ghost use Rattle.std.specs.Ordering.{MatchOrdering};
 ghost use Rattle.octets.specs.Octets.{value};
+ghost use Rattle.octets.specs.Ranges.{empty, in_range};
 
 use std::cmp::Ordering;
 
@@ -19,27 +20,48 @@ pub fn order(a: LspId, b: LspId) -> Ordering
     ensures ranked { MatchOrdering result (value a < value b) (value a ≡ value b) (value b < value a) }
     ensures same { value a ≡ value b → a ≡ b }
 {
-    for i in 0..8 {
-        if a[i] < b[i] {
-            return Ordering::Less;
-        }
-        if a[i] > b[i] {
-            return Ordering::Greater;
-        }
-    }
-    Ordering::Equal
+    a.cmp(&b)
 }
 
 // Whether two identifiers are the same.
 pub fn same(a: LspId, b: LspId) -> bool
     ensures { Decides result (a ≡ b) }
 {
-    matches!(order(a, b), Ordering::Equal)
+    a == b
 }
 
 // Whether an identifier comes before another.
 pub fn before(a: LspId, b: LspId) -> bool
     ensures { result ≡ nat_lt (value a) (value b) }
 {
-    matches!(order(a, b), Ordering::Less)
+    order(a, b).is_lt()
+}
+
+// The identifiers from a start to an end, both among them.
+#[derive(Clone, Copy, PartialEq, Eq, Debug)]
+pub struct IdRange {
+    pub start: LspId,
+    pub end: LspId,
+}
+
+impl IdRange {
+    // Every identifier: from eight 00 to eight FF.
+    pub const ALL: IdRange = IdRange {
+        start: [0; 8],
+        end: [0xff; 8],
+    };
+
+    // Whether it ends before it starts.
+    pub fn is_empty(self) -> bool
+        ensures { result ≡ empty self }
+    {
+        before(self.end, self.start)
+    }
+
+    // Whether an identifier is one of these.
+    pub fn contains(self, id: LspId) -> bool
+        ensures { result ≡ in_range self (value id) }
+    {
+        !before(id, self.start) && !before(self.end, id)
+    }
 }
