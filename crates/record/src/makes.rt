@@ -1,7 +1,5 @@
 // Records as they are made.
 ghost use Rattle.std.specs.Prelude.{◌≡◌, ◌≤◌, true, MatchOption};
-ghost use Rattle.octets.specs.Checks.{right};
-ghost use Rattle.frame.specs.Messages.{covered_part};
 ghost use Rattle.frame.specs.Meaning.{lsp_said};
 ghost use Rattle.frame.specs.Trip.{LspFits};
 ghost use Rattle.record.specs.Fields.{formed};
@@ -16,13 +14,6 @@ use octets::{CheckOctets, LspId};
 use writer::computed_check;
 
 const NO_CHECK: CheckOctets = CheckOctets { x: 0, y: 0 };
-
-// Whether the check octets are those of what is said.
-fn is_checked(m: &Lsp<'_>) -> bool
-    ensures { result ≡ right 13 (covered_part (lsp_said m.now)) }
-{
-    computed_check(m) == m.check
-}
 
 // The record that says an LSP, with its body as a record holds it, and without flags.
 fn unflagged(m: &Lsp<'_>, body: Body, wait: u8) -> Record
@@ -71,7 +62,7 @@ impl Record {
         if m.lifetime == 0 || m.lifetime > 1200 || m.number == 0 {
             return None;
         }
-        if !is_checked(m) {
+        if computed_check(m) != m.check {
             return None;
         }
         let body = Body::new(m.body).ok()?;
