@@ -1,5 +1,5 @@
 -- The three forms of records.
-use Rattle.std.specs.Prelude.{◌≡◌, ℕ, ◌≤◌, Bool, true, false, cond, List, [], length, codes, nat_le}
+use Rattle.std.specs.Prelude.{◌≡◌, ℕ, ◌≤◌, Bool, true, false, if◌then◌else◌, List, [], length, codes, nat_le}
 use Rattle.octets.specs.declared.checks.CheckOctets.{CheckOctets}
 use Rattle.octets.specs.Checks.{right, check_octets}
 use Rattle.octets.specs.Fields.{Whole}
@@ -24,7 +24,7 @@ is_live x = nat_le 1 x.lifetime
 
 -- the form by number and lifetime: number 0 is a placeholder's, lifetime 0 a purge's
 abbrev pub form_by : ℕ → ℕ → Form
-form_by number lifetime = cond (nat_le 1 lifetime) Live (cond (nat_le 1 number) Purge Placeholder)
+form_by number lifetime = if nat_le 1 lifetime then Live else if nat_le 1 number then Purge else Placeholder
 
 abbrev pub form_of : Record → Form
 form_of x = form_by x.number x.lifetime

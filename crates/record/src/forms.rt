@@ -1,7 +1,7 @@
 // What a record is, and what it says.
-ghost use Rattle.std.specs.Prelude.{◌≡◌, Some};
+ghost use Rattle.std.specs.Prelude.{◌≡◌};
 ghost use Rattle.frame.specs.Meaning.{lsp_said};
-ghost use Rattle.record.specs.Forms.{record_said, is_live, form_of, form_letter, WellFormed};
+ghost use Rattle.record.specs.Forms.{record_said, is_live, form_of, WellFormed};
 ghost use Rattle.record.specs.Saying.{WritesRecord};
 ghost use Rattle.record.specs.Order.{recency, rank, Stands};
 
@@ -10,7 +10,6 @@ use crate::record::Record;
 use fault::FrameFault;
 use frame::Lsp;
 use std::cmp::Ordering;
-use std::fmt;
 use writer::write_lsp;
 
 impl Record {
@@ -73,18 +72,5 @@ impl Record {
         ensures { WritesRecord self.now buf.old buf.new result }
     {
         self.written(buf)
-    }
-}
-
-// L, P or H.
-impl fmt::Display for Form {
-    ghost output = { λ f. Some (form_letter f) };
-
-    fn fmt<W: fmt::Write>(&self, f: &mut fmt::Formatter<W>) -> fmt::Result {
-        f.write_str(match self {
-            Form::Live => "L",
-            Form::Purge => "P",
-            Form::Placeholder => "H",
-        })
     }
 }
