@@ -3,7 +3,6 @@ use Rattle.std.proofs.Common.{◌≡◌, ℕ, zero, suc, ◌+◌, ◌-◌, ◌*�
 use Rattle.std.proofs.lemmas.List.{length-append, length-take-le, length-drop, get_or_at, get_or-append-add, take-append-drop, drop_more}
 use Rattle.std.proofs.ByRecursion.{All-get_or}
 use Rattle.std.proofs.lemmas.Bool.{and_parts, and_from, leb-true, le-leb, eqb-true, eqb-false, eq-eqb, ne_eqb, not-true}
-use Rattle.octets.specs.Octets.{Octets}
 use Rattle.octets.specs.Checks.{plain, weighted, c0_of, c1_of, sums_of, sums_then, written, made_octets, has_places, with_check, unchecked, check_octets, own_check, right, ComputedRight, RightComputed}
 use Rattle.octets.specs.declared.checks.CheckOctets.{CheckOctets}
 use Rattle.octets.specs.declared.checks.Sums.{Sums}

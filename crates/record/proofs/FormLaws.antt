@@ -1,9 +1,8 @@
 -- Every record has one of the three forms.
-use Rattle.std.proofs.Common.{◌≡◌, ℕ, ◌≤◌, Bool, true, false, not, ◌||◌, eqb, leb, ◌⊎◌, List, length, is_some, Some, None, Option, sym, refl, ap, ◌∙◌, subst, inl, inr, arith, lit<}
+use Rattle.std.proofs.Common.{◌≡◌, ℕ, ◌≤◌, Bool, true, false, not, ◌||◌, eqb, leb, ◌⊎◌, List, length, length-take, is_some, Some, None, Option, sym, refl, ap, ◌∙◌, subst, inl, inr, arith, lit<}
 use Rattle.std.proofs.lemmas.Bool.{cases_lt, and_parts, and_from, or_cases, or_left, or_right, and_left, leb-true, le-leb, lt-leb, eqb-true, eqb-false, eq-eqb, cond-true, cond-false, true≢false}
-use Rattle.std.proofs.lemmas.List.{length-take-le, nil_from_length}
+use Rattle.std.proofs.lemmas.List.{nil_from_length}
 use Rattle.fault.specs.declared.FrameFault.{FrameFault}
-use Rattle.octets.specs.declared.checks.CheckOctets.{CheckOctets}
 use Rattle.octets.specs.Checks.{right}
 use Rattle.octets.specs.Fields.{Whole, broken_field, body_fault}
 use Rattle.octets.proofs.FieldLaws.{none_whole, whole_none, body_long}
@@ -16,7 +15,7 @@ use Rattle.record.specs.declared.form.Form.TheVariants.{Live, Purge, Placeholder
 use Rattle.record.specs.declared.port.Ports.{Ports}
 use Rattle.record.specs.declared.record.Record.{Record}
 use Rattle.record.specs.Fields.{whole_fields, live_form, bare, purge_form, placeholder_form, formed, quiet}
-use Rattle.record.specs.Bodies.{body_octets, lsp_by, pdu}
+use Rattle.record.specs.Bodies.{body_octets}
 use Rattle.record.specs.Bits.{bit}
 use Rattle.record.specs.Ports.{has_port, IsDifference}
 use Rattle.record.specs.Forms.{no_check, record_said, form_of, Bare, HasForm, WellFormed}
@@ -59,7 +58,7 @@ quiet_less n a b r d q =
     ]
 
 pub octets_short : (b : Body) → length (body_octets b) ≤ 100
-octets_short b = omega (arith, length-take-le b.len b.octets (omega (arith, b.room, b.few)), b.few)
+octets_short b = omega (arith, length-take b.len b.octets, b.few)
 
 -- the parts of the forms
 pub record Lives (m : LspPdu) (w : ℕ) : Type 0 where
@@ -213,4 +212,3 @@ module _ (x : Record) where
         short = octets_short x.body;
         fits = record_fits;
       }
-

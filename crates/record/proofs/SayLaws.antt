@@ -1,5 +1,5 @@
 -- What can be said is written, and right check octets are the computed ones.
-use Rattle.std.proofs.Common.{◌≡◌, ℕ, ◌-◌, ◌<◌, Bool, true, false, cond, ◌&&◌, eqb, ltb, List, ◌∷◌, ◌++◌, length, take, Ok, Err, Result, sym, refl, ap, ◌∙◌, subst, arith}
+use Rattle.std.proofs.Common.{◌≡◌, ℕ, ◌<◌, Bool, true, false, cond, ◌&&◌, eqb, ltb, List, ◌∷◌, length, Ok, Err, Result, sym, refl, ap, ◌∙◌, subst}
 use Rattle.std.proofs.lemmas.Bool.{and_parts, and_from, eqb-true, eq-eqb, true≢false, ltb-true, ltb-false}
 use Rattle.fault.specs.declared.FrameFault.{FrameFault}
 use Rattle.fault.specs.declared.FrameFault.TheVariants.{Size}
@@ -12,8 +12,6 @@ use Rattle.frame.specs.Reading.{decode, faults}
 use Rattle.frame.specs.Trip.{LspFits}
 use Rattle.frame.proofs.Trips.{reads_back}
 use Rattle.writer.specs.Writing.{Writes, with_check_octets}
-use Rattle.writer.specs.Places.{Wrote}
-use Rattle.writer.proofs.Writes.{wrote_taken}
 use Rattle.writer.proofs.WriteLaws.{was_written, too_small}
 
 -- the check octets are right where they are the computed ones, and only there
@@ -51,9 +49,3 @@ never_refused m old new a f w = w.is ∙ go (ltb (length old) 275) refl
         ≡ cond b (Err Size) (Ok (length (encode (lsp m))))
     go true p = sym (too_small (lsp m) old (ltb-true (length old) 275 p)).is
     go false p = sym (was_written (lsp m) old _ (length (encode (lsp m))) (ltb-false (length old) 275 p) back refl refl).is
-
--- what was written at the front of a buffer
-pub front_taken : {d w e : List ℕ} {p : ℕ} → Wrote d 0 w e p → take (length w) e ≡ w
-front_taken {d} {w} {e} {p} x =
-    let n : p - 0 ≡ length w = omega (arith, x.place) in
-    ap (λ (k : ℕ). take k e) (sym n) ∙ wrote_taken x

@@ -13,17 +13,11 @@ use std::cmp::Ordering;
 use writer::write_lsp;
 
 impl Record {
-    // What holds of every record.
-    fn stands(&self)
-        ensures { WellFormed self.now }
-    {}
-
     // Its form; whichever it is, the record has what the form asks.
     pub fn form(&self) -> Form
         ensures is { result ≡ form_of self.now }
         ensures has { WellFormed self.now }
     {
-        self.stands();
         if self.lifetime > 0 {
             Form::Live
         } else if self.number > 0 {

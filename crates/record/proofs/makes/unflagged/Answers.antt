@@ -1,5 +1,4 @@
 use Rattle.std.proofs.Common.{◌≡◌, ℕ, true, List, sym, subst, arith, rules}
-use Rattle.octets.specs.Octets.{value}
 use Rattle.writer.proofs.Pieces.{by_value}
 use Rattle.record.specs.Fields.{formed}
 use Rattle.record.specs.Bodies.{lsp_by}
