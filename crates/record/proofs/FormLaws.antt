@@ -1,6 +1,6 @@
 -- Every record has one of the three forms.
 use Rattle.std.proofs.Common.{◌≡◌, ℕ, ◌≤◌, Bool, true, false, not, ◌||◌, eqb, leb, ◌⊎◌, List, length, length-take, is_some, Some, None, Option, sym, refl, ap, ◌∙◌, subst, inl, inr, arith, lit<}
-use Rattle.std.proofs.lemmas.Bool.{cases_lt, and_parts, and_from, or_cases, or_left, or_right, and_left, leb-true, le-leb, lt-leb, eqb-true, eqb-false, eq-eqb, cond-true, cond-false, true≢false}
+use Rattle.std.proofs.lemmas.Bool.{cases_lt, and_parts, and_from, or_cases, or_left, or_right, leb-true, le-leb, lt-leb, eqb-true, eqb-false, eq-eqb, cond-true, cond-false, true≢false}
 use Rattle.std.proofs.lemmas.List.{nil_from_length}
 use Rattle.fault.specs.declared.FrameFault.{FrameFault}
 use Rattle.octets.specs.Checks.{right}
@@ -17,7 +17,7 @@ use Rattle.record.specs.declared.record.Record.{Record}
 use Rattle.record.specs.Fields.{whole_fields, live_form, bare, purge_form, placeholder_form, formed, quiet}
 use Rattle.record.specs.Bodies.{body_octets}
 use Rattle.record.specs.Bits.{bit}
-use Rattle.record.specs.Ports.{has_port, IsDifference}
+use Rattle.record.specs.Ports.{has_port}
 use Rattle.record.specs.Forms.{no_check, record_said, form_of, Bare, HasForm, WellFormed}
 use Rattle.record.proofs.Masks.{bit_zero, bits_same}
 
@@ -47,14 +47,14 @@ none_has a f = eq-eqb a.bits 0 (bits_same a.bits 0 a.few (lit< tt) (λ k l. f k 
 pub quiet_none : (n : ℕ) (a : Ports) → ((k : ℕ) → has_port a k ≡ false) → quiet n a ≡ true
 quiet_none n a f = or_right (leb 1 n) (eqb a.bits 0) (none_has a f)
 
--- and so is what is left of a quiet one
-pub quiet_less : (n : ℕ) (a b r : Ports) → IsDifference a b r → quiet n a ≡ true → quiet n r ≡ true
-quiet_less n a b r d q =
+-- and so is a set that has no port which a quiet one has not
+pub quiet_fewer : (n : ℕ) (a r : Ports) → ((k : ℕ) → has_port a k ≡ false → has_port r k ≡ false) → quiet n a ≡ true → quiet n r ≡ true
+quiet_fewer n a r f q =
     elim (or_cases (leb 1 n) (eqb a.bits 0) q) [
       | inl l ↦ or_left (leb 1 n) (eqb r.bits 0) l
       | inr z ↦
           or_right (leb 1 n) (eqb r.bits 0)
-          (none_has r (λ k. d k ∙ and_left _ _ (ap (λ (s : ℕ). bit s k) (eqb-true a.bits 0 z) ∙ bit_zero k)))
+          (none_has r (λ k. f k (ap (λ (s : ℕ). bit s k) (eqb-true a.bits 0 z) ∙ bit_zero k)))
     ]
 
 pub octets_short : (b : Body) → length (body_octets b) ≤ 100

@@ -23,7 +23,7 @@ pub struct Record {
     pub(crate) srm: Ports,
     // where it is to be reported
     pub(crate) ssn: Ports,
-    // The two bounds are those of the types: a lemma over any record needs them, and a function is told them only of fields that it reads.
+    // The two bounds are those of the types. A function is told them only of fields that it reads, and lemmas are about any record.
     ghost sized: { value id < 256 ^ 8 },
     ghost numbered: { number < 256 ^ 4 },
     ghost form: { formed (pdu id number lifetime check flags body) wait ≡ true },
