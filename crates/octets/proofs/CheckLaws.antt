@@ -3,7 +3,6 @@ use Rattle.std.proofs.Common.{◌≡◌, ℕ, zero, suc, ◌+◌, ◌-◌, ◌*�
 use Rattle.std.proofs.lemmas.List.{length-append, length-take-le, length-drop, get_or_at, get_or-append-add, take-append-drop, drop_more}
 use Rattle.std.proofs.ByRecursion.{All-get_or}
 use Rattle.std.proofs.lemmas.Bool.{and_parts, and_from, leb-true, le-leb, eqb-true, eqb-false, eq-eqb, ne_eqb, not-true}
-use Rattle.octets.specs.Octets.{Octets}
 use Rattle.octets.specs.Checks.{plain, weighted, c0_of, c1_of, sums_of, sums_then, written, made_octets, has_places, with_check, unchecked, check_octets, own_check, right, ComputedRight, RightComputed}
 use Rattle.octets.specs.declared.checks.CheckOctets.{CheckOctets}
 use Rattle.octets.specs.declared.checks.Sums.{Sums}
@@ -209,14 +208,12 @@ module _ (p : ℕ) (part : List ℕ) (low : 1 ≤ p) (high : p + 1 ≤ length pa
       let ey : eqb (own_check p (with_check p o part)).y 0 ≡ false = ap (λ (c : CheckOctets). eqb c.y 0) (own_with o) ∙ n.1 in
       rw (here, eq-eqb (c0_of (with_check p o part)) 0 (c0_with o ∙ s.0), eq-eqb (c1_of (with_check p o part)) 0 (c1_with o ∙ s.1), ex, ey) refl
 
-  right-at : Octets part → right p part ≡ true → own_check p part ≡ check_octets p part
-  right-at h r =
+  right-at : (own_check p part).x < 256 → (own_check p part).y < 256 → right p part ≡ true → own_check p part ≡ check_octets p part
+  right-at hx hy r =
       let o : CheckOctets = own_check p part in
       let a = all_five (has_places p part) (eqb (c0_of part) 0) (eqb (c1_of part) 0) (eqb o.x 0) (eqb o.y 0) r in
       let nx : 0 < o.x = omega (arith, eqb-false o.x 0 a.3) in
       let ny : 0 < o.y = omega (arith, eqb-false o.y 0 a.4) in
-      let hx : o.x < 256 = All-get_or (λ (x : ℕ). x < 256) part (p - 1) 0 (omega arith) h in
-      let hy : o.y < 256 = All-get_or (λ (x : ℕ). x < 256) part p 0 (omega arith) h in
       sums_made (plain (unchecked p part)) (weighted (unchecked p part)) (length part - p) o nx hx ny hy
       (sym (c0_with o) ∙ ap c0_of with_own ∙ eqb-true (c0_of part) 0 a.1)
       (sym (c1_with o) ∙ ap c1_of with_own ∙ eqb-true (c1_of part) 0 a.2)
@@ -229,5 +226,11 @@ places p part h =
 pub computed_right : ComputedRight
 computed_right p part h = let a = places p part h in computed_at p part a.0 a.1
 
+-- only the check octets of the part have to be octets
+pub right_own : (p : ℕ) (part : List ℕ) → (own_check p part).x < 256 → (own_check p part).y < 256 → right p part ≡ true → own_check p part ≡ check_octets p part
+right_own p part hx hy r = let a = places p part (and_parts (has_places p part) _ r).0 in right-at p part a.0 a.1 hx hy r
+
 pub right_computed : RightComputed
-right_computed p part h r = let a = places p part (and_parts (has_places p part) _ r).0 in right-at p part a.0 a.1 h r
+right_computed p part h r =
+    let a = places p part (and_parts (has_places p part) _ r).0 in
+    right_own p part (All-get_or (λ (x : ℕ). x < 256) part (p - 1) 0 (omega arith) h) (All-get_or (λ (x : ℕ). x < 256) part p 0 (omega arith) h) r

@@ -1,9 +1,8 @@
 -- Every record has one of the three forms.
-use Rattle.std.proofs.Common.{◌≡◌, ℕ, ◌≤◌, Bool, true, false, not, ◌||◌, eqb, leb, ◌⊎◌, List, length, is_some, Some, None, Option, sym, refl, ap, ◌∙◌, subst, inl, inr, arith}
+use Rattle.std.proofs.Common.{◌≡◌, ℕ, ◌≤◌, Bool, true, false, not, ◌||◌, eqb, leb, ◌⊎◌, List, length, length-take, is_some, Some, None, Option, sym, refl, ap, ◌∙◌, subst, inl, inr, arith, lit<}
 use Rattle.std.proofs.lemmas.Bool.{cases_lt, and_parts, and_from, or_cases, or_left, or_right, leb-true, le-leb, lt-leb, eqb-true, eqb-false, eq-eqb, cond-true, cond-false, true≢false}
-use Rattle.std.proofs.lemmas.List.{length-take-le, nil_from_length}
+use Rattle.std.proofs.lemmas.List.{nil_from_length}
 use Rattle.fault.specs.declared.FrameFault.{FrameFault}
-use Rattle.octets.specs.declared.checks.CheckOctets.{CheckOctets}
 use Rattle.octets.specs.Checks.{right}
 use Rattle.octets.specs.Fields.{Whole, broken_field, body_fault}
 use Rattle.octets.proofs.FieldLaws.{none_whole, whole_none, body_long}
@@ -13,12 +12,14 @@ use Rattle.frame.specs.Trip.{LspFits}
 use Rattle.record.specs.declared.body.Body.{Body}
 use Rattle.record.specs.declared.form.Form.{Form}
 use Rattle.record.specs.declared.form.Form.TheVariants.{Live, Purge, Placeholder}
+use Rattle.record.specs.declared.port.Ports.{Ports}
 use Rattle.record.specs.declared.record.Record.{Record}
 use Rattle.record.specs.Fields.{whole_fields, live_form, bare, purge_form, placeholder_form, formed, quiet}
-use Rattle.record.specs.Bodies.{body_octets, lsp_by, pdu}
+use Rattle.record.specs.Bodies.{body_octets}
 use Rattle.record.specs.Bits.{bit}
+use Rattle.record.specs.Ports.{has_port}
 use Rattle.record.specs.Forms.{no_check, record_said, form_of, Bare, HasForm, WellFormed}
-use Rattle.record.proofs.Masks.{bit_zero}
+use Rattle.record.proofs.Masks.{bit_zero, bits_same}
 
 none_left : {F : Type 0} (o : Option F) → not (is_some o) ≡ true → o ≡ None
 none_left None h = refl
@@ -39,11 +40,25 @@ fault_short at b h =
       | inr l ↦ l
     ]
 
-pub quiet_none : (n : ℕ) → quiet n 0 ≡ true
-quiet_none n = or_right (leb 1 n) true refl
+-- a set that has no port is quiet at any number
+none_has : (a : Ports) → ((k : ℕ) → has_port a k ≡ false) → eqb a.bits 0 ≡ true
+none_has a f = eq-eqb a.bits 0 (bits_same a.bits 0 a.few (lit< tt) (λ k l. f k ∙ sym (bit_zero k)))
+
+pub quiet_none : (n : ℕ) (a : Ports) → ((k : ℕ) → has_port a k ≡ false) → quiet n a ≡ true
+quiet_none n a f = or_right (leb 1 n) (eqb a.bits 0) (none_has a f)
+
+-- and so is a set that has no port which a quiet one has not
+pub quiet_fewer : (n : ℕ) (a r : Ports) → ((k : ℕ) → has_port a k ≡ false → has_port r k ≡ false) → quiet n a ≡ true → quiet n r ≡ true
+quiet_fewer n a r f q =
+    elim (or_cases (leb 1 n) (eqb a.bits 0) q) [
+      | inl l ↦ or_left (leb 1 n) (eqb r.bits 0) l
+      | inr z ↦
+          or_right (leb 1 n) (eqb r.bits 0)
+          (none_has r (λ k. f k (ap (λ (s : ℕ). bit s k) (eqb-true a.bits 0 z) ∙ bit_zero k)))
+    ]
 
 pub octets_short : (b : Body) → length (body_octets b) ≤ 100
-octets_short b = omega (arith, length-take-le b.len b.octets (omega (arith, b.room, b.few)), b.few)
+octets_short b = omega (arith, length-take b.len b.octets, b.few)
 
 -- the parts of the forms
 pub record Lives (m : LspPdu) (w : ℕ) : Type 0 where
@@ -142,11 +157,11 @@ module _ (x : Record) where
         wait = h.wait;
       }
 
-  silent : x.number ≡ 0 → x.srm ≡ 0
+  silent : x.number ≡ 0 → x.srm.bits ≡ 0
   silent e =
-      elim (or_cases (leb 1 x.number) (eqb x.srm 0) x.unsent) [
+      elim (or_cases (leb 1 x.number) (eqb x.srm.bits 0) x.unsent) [
         | inl a ↦ (let n = leb-true 1 x.number a in absurd (omega arith))
-        | inr b ↦ eqb-true x.srm 0 b
+        | inr b ↦ eqb-true x.srm.bits 0 b
       ]
 
   form_is : Which (record_said x) x.wait → HasForm (form_of x) x
@@ -197,20 +212,3 @@ module _ (x : Record) where
         short = octets_short x.body;
         fits = record_fits;
       }
-
--- what was heard live makes a live record
-pub heard-formed :
-    (id kept : List ℕ) (n l : ℕ) (c : CheckOctets) (f : ℕ) (b : Body) (body : List ℕ) →
-    kept ≡ id → body_octets b ≡ body → 1 ≤ n → 1 ≤ l → l ≤ 1200 → right 13 (covered_part (lsp_by 0 id n c f body)) ≡ true →
-    formed (pdu kept n l c f b) 0 ≡ true
-heard-formed id kept n l c f b body e d hn hl hs r =
-    live_formed (pdu kept n l c f b) 0
-    (record {
-      number = hn;
-      lifetime = hl;
-      short = hs;
-      wait = refl;
-      sums =
-          subst (λ (i : List ℕ). right 13 (covered_part (lsp_by 0 i n c f (body_octets b))) ≡ true) (sym e)
-          (subst (λ (o : List ℕ). right 13 (covered_part (lsp_by 0 id n c f o)) ≡ true) (sym d) r);
-    })

@@ -1,4 +1,3 @@
 pub mod Masks
 pub mod FormLaws
-pub mod OrderLaws
 pub mod SayLaws

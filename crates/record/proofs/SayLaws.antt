@@ -1,15 +1,12 @@
 -- What can be said is written, and right check octets are the computed ones.
 use Rattle.std.proofs.Common.{◌≡◌, ℕ, ◌<◌, Bool, true, false, cond, ◌&&◌, eqb, ltb, List, ◌∷◌, ◌++◌, length, Ok, Err, Result, sym, refl, ap, ◌∙◌, subst}
 use Rattle.std.proofs.lemmas.Bool.{and_parts, and_from, eqb-true, eq-eqb, true≢false, ltb-true, ltb-false}
-use Rattle.std.proofs.ByRecursion.{All-append}
 use Rattle.fault.specs.declared.FrameFault.{FrameFault}
 use Rattle.fault.specs.declared.FrameFault.TheVariants.{Size}
 use Rattle.fault.specs.Order.{fails, first_fault, unless}
 use Rattle.octets.specs.declared.checks.CheckOctets.{CheckOctets}
-use Rattle.octets.specs.Octets.{Octets, octets}
 use Rattle.octets.specs.Checks.{right, check_octets}
-use Rattle.octets.proofs.CheckLaws.{same_check, right_computed}
-use Rattle.octets.proofs.Numbers.{octets-octets}
+use Rattle.octets.proofs.CheckLaws.{same_check, right_own}
 use Rattle.frame.specs.Messages.{LspPdu, lsp, covered_part, encode}
 use Rattle.frame.specs.Reading.{decode, faults}
 use Rattle.frame.specs.Trip.{LspFits}
@@ -17,23 +14,16 @@ use Rattle.frame.proofs.Trips.{reads_back}
 use Rattle.writer.specs.Writing.{Writes, with_check_octets}
 use Rattle.writer.proofs.WriteLaws.{was_written, too_small}
 
-pub covered_octets :
-    (m : LspPdu) → m.check.x < 256 → m.check.y < 256 → m.flags < 256 → Octets m.body → Octets (covered_part m)
-covered_octets m x y f b =
-    All-append (λ (n : ℕ). n < 256) (octets 8 m.id ++ octets 4 m.number) (m.check.x ∷ m.check.y ∷ m.flags ∷ m.body)
-    (All-append (λ (n : ℕ). n < 256) (octets 8 m.id) (octets 4 m.number) (octets-octets 8 m.id) (octets-octets 4 m.number))
-    (x, (y, (f, b)))
-
 -- the check octets are right where they are the computed ones, and only there
 pub checked_right :
-    (m : LspPdu) (c : CheckOctets) → Octets (covered_part m) → c ≡ check_octets 13 (covered_part m) →
+    (m : LspPdu) (c : CheckOctets) → m.check.x < 256 → m.check.y < 256 → c ≡ check_octets 13 (covered_part m) →
     right 13 (covered_part (with_check_octets c m)) ≡ true →
     (eqb c.x m.check.x && eqb c.y m.check.y) ≡ right 13 (covered_part m)
-checked_right m c o e h = go (right 13 (covered_part m)) refl (eqb c.x m.check.x && eqb c.y m.check.y) refl
+checked_right m c x y e h = go (right 13 (covered_part m)) refl (eqb c.x m.check.x && eqb c.y m.check.y) refl
   where
     go : (r : Bool) → right 13 (covered_part m) ≡ r → (t : Bool) → (eqb c.x m.check.x && eqb c.y m.check.y) ≡ t → t ≡ r
     go true p t q =
-        let k : m.check ≡ c = right_computed 13 (covered_part m) o p ∙ sym e in
+        let k : m.check ≡ c = right_own 13 (covered_part m) x y p ∙ sym e in
         sym q
         ∙ and_from (eqb c.x m.check.x) (eqb c.y m.check.y) (eq-eqb _ _ (ap (λ (d : CheckOctets). d.x) (sym k)))
         (eq-eqb _ _ (ap (λ (d : CheckOctets). d.y) (sym k)))

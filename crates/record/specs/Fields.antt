@@ -3,6 +3,7 @@ use Rattle.std.specs.Prelude.{ℕ, Bool, not, ◌&&◌, ◌||◌, List, length, 
 use Rattle.octets.specs.Checks.{right}
 use Rattle.octets.specs.Fields.{broken_field}
 use Rattle.frame.specs.Messages.{LspPdu, covered_part}
+use Rattle.record.specs.declared.port.Ports.{Ports}
 
 -- a body of whole fields
 unfoldable pub whole_fields : List ℕ → Bool
@@ -31,5 +32,5 @@ unfoldable pub formed : LspPdu → ℕ → Bool
 formed m wait = live_form m wait || (purge_form m wait || placeholder_form m wait)
 
 -- a placeholder, which alone has number 0, is never to be sent
-abbrev pub quiet : ℕ → ℕ → Bool
-quiet number srm = nat_le 1 number || srm == 0
+abbrev pub quiet : ℕ → Ports → Bool
+quiet number srm = nat_le 1 number || srm.bits == 0

@@ -1,19 +1,14 @@
 -- The flags of a record: SRM and SSN, one bit of each for every port.
-use Rattle.std.specs.Prelude.{◌≡◌, ℕ, ◌<◌, Bool, not, ◌&&◌, ◌||◌, nat_le}
-use Rattle.record.specs.declared.port.Ports.{Ports}
+use Rattle.std.specs.Prelude.{◌≡◌, ℕ, Bool, not, ◌&&◌, ◌||◌, nat_le}
 use Rattle.record.specs.declared.record.Record.{Record}
-use Rattle.record.specs.Bits.{bit}
-
--- whether a port is one of these
-abbrev pub has_port : Ports → ℕ → Bool
-has_port ps k = bit ps.bits k
+use Rattle.record.specs.Ports.{has_port}
 
 -- whether the record is to be sent, and to be reported, on a port
 abbrev pub srm_at : Record → ℕ → Bool
-srm_at x k = bit x.srm k
+srm_at x k = has_port x.srm k
 
 abbrev pub ssn_at : Record → ℕ → Bool
-ssn_at x k = bit x.ssn k
+ssn_at x k = has_port x.ssn k
 
 -- a placeholder is never to be sent
 abbrev pub may_send : Record → Bool
@@ -29,10 +24,10 @@ pub record Kept (x y : Record) : Type 0 where
   pub body : y.body ≡ x.body
   pub wait : y.wait ≡ x.wait
 
--- the record x with these bits for its flags
+-- the record x with these ports for its flags
 pub record Marked (x y : Record) (sent reported : ℕ → Bool) : Type 0 where
-  pub srm : (k : ℕ) → k < 8 → srm_at y k ≡ sent k
-  pub ssn : (k : ℕ) → k < 8 → ssn_at y k ≡ reported k
+  pub srm : (k : ℕ) → srm_at y k ≡ sent k
+  pub ssn : (k : ℕ) → ssn_at y k ≡ reported k
   pub kept : Kept x y
 
 -- what setting and clearing flags on some ports leaves

@@ -1,5 +1,5 @@
 -- The three forms of records.
-use Rattle.std.specs.Prelude.{◌≡◌, ℕ, ◌≤◌, Bool, true, false, cond, List, [], length, nat_le}
+use Rattle.std.specs.Prelude.{◌≡◌, ℕ, ◌≤◌, Bool, true, false, if◌then◌else◌, List, [], length, codes, nat_le}
 use Rattle.octets.specs.declared.checks.CheckOctets.{CheckOctets}
 use Rattle.octets.specs.Checks.{right, check_octets}
 use Rattle.octets.specs.Fields.{Whole}
@@ -10,7 +10,7 @@ use Rattle.record.specs.declared.form.Form.{Form}
 use Rattle.record.specs.declared.form.Form.TheVariants.{Live, Purge, Placeholder}
 use Rattle.record.specs.declared.record.Record.{Record}
 use Rattle.record.specs.Bodies.{body_octets, pdu}
-use Rattle.record.specs.Bits.{bit}
+use Rattle.record.specs.Ports.{has_port}
 
 abbrev pub no_check : CheckOctets
 no_check = record { x = 0; y = 0 }
@@ -24,10 +24,16 @@ is_live x = nat_le 1 x.lifetime
 
 -- the form by number and lifetime: number 0 is a placeholder's, lifetime 0 a purge's
 abbrev pub form_by : ℕ → ℕ → Form
-form_by number lifetime = cond (nat_le 1 lifetime) Live (cond (nat_le 1 number) Purge Placeholder)
+form_by number lifetime = if nat_le 1 lifetime then Live else if nat_le 1 number then Purge else Placeholder
 
 abbrev pub form_of : Record → Form
 form_of x = form_by x.number x.lifetime
+
+-- a form as text: L, P or H
+abbrev pub form_letter : Form → List ℕ
+form_letter Live = codes "L"
+form_letter Purge = codes "P"
+form_letter Placeholder = codes "H"
 
 -- nothing is left of an LSP but its number and flag octet, for a wait of 1 to 60
 pub record Bare (x : Record) : Type 0 where
@@ -41,7 +47,7 @@ abbrev pub HasForm : Form → Record → Type 0
 HasForm Live x =
     (1 ≤ x.number) × (1 ≤ x.lifetime) × (x.lifetime ≤ 1200) × (x.wait ≡ 0) × (right 13 (covered_part (record_said x)) ≡ true)
 HasForm Purge x = (1 ≤ x.number) × Bare x
-HasForm Placeholder x = (x.number ≡ 0) × (x.flags ≡ 0) × Bare x × ((k : ℕ) → bit x.srm k ≡ false)
+HasForm Placeholder x = (x.number ≡ 0) × (x.flags ≡ 0) × Bare x × ((k : ℕ) → has_port x.srm k ≡ false)
 
 -- what holds of every record: its form, a body of whole fields, and that all but placeholders can be said as LSPs
 pub record WellFormed (x : Record) : Type 0 where
@@ -52,8 +58,8 @@ pub record WellFormed (x : Record) : Type 0 where
 
 -- no flag is set
 pub record Unflagged (x : Record) : Type 0 where
-  pub srm : (k : ℕ) → bit x.srm k ≡ false
-  pub ssn : (k : ℕ) → bit x.ssn k ≡ false
+  pub srm : (k : ℕ) → has_port x.srm k ≡ false
+  pub ssn : (k : ℕ) → has_port x.ssn k ≡ false
 
 -- a record as it is made from what an LSP says
 pub record Made (m : LspPdu) (key : List ℕ) (x : Record) : Type 0 where

@@ -1,4 +1,5 @@
 pub mod Bits
+pub mod Ports
 pub mod Fields
 pub mod Bodies
 pub mod Forms

@@ -1,5 +1,5 @@
 -- A record written as an LSP.
-use Rattle.std.specs.Prelude.{◌≡◌, ℕ, ◌≤◌, cond, List, length, Ok, Err, Result, nat_lt}
+use Rattle.std.specs.Prelude.{◌≡◌, ℕ, ◌≤◌, if◌then◌else◌, List, length, Ok, Err, Result, nat_lt}
 use Rattle.fault.specs.declared.FrameFault.{FrameFault}
 use Rattle.fault.specs.declared.FrameFault.TheVariants.{Size}
 use Rattle.frame.specs.Messages.{lsp, encode}
@@ -10,4 +10,5 @@ use Rattle.record.specs.Forms.{record_said}
 -- what writing a record answers and leaves; any but a placeholder is refused for want of room alone
 pub record WritesRecord (x : Record) (old new : List ℕ) (answer : Result ℕ FrameFault) : Type 0 where
   pub writes : Writes (lsp (record_said x)) old new answer
-  pub taken : 1 ≤ x.number → answer ≡ cond (nat_lt (length old) 275) (Err Size) (Ok (length (encode (lsp (record_said x)))))
+  pub taken : 1 ≤ x.number →
+      answer ≡ (if nat_lt (length old) 275 then Err Size else Ok (length (encode (lsp (record_said x)))))

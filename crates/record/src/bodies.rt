@@ -1,5 +1,5 @@
 // Bodies, made and read.
-ghost use Rattle.std.specs.Prelude.{◌≡◌, ◌≤◌, [], length, take, Some, None, MatchResult};
+ghost use Rattle.std.specs.Prelude.{◌≡◌, ◌≤◌, [], length, Some, None, MatchResult};
 ghost use Rattle.octets.specs.Fields.{Whole, body_fault};
 ghost use Rattle.record.specs.Bodies.{body_octets};
 
@@ -7,22 +7,13 @@ use crate::body::Body;
 use fault::FrameFault;
 use octets::check_body;
 
-// Writes octets at the front.
-fn put_front(buf: &mut [u8], octets: &[u8])
-    requires { length octets.now ≤ length buf.old }
-    ensures { take (length octets.now) buf.new ≡ octets.now }
-{
-    let end = octets.len();
-    buf[0..end].copy_from_slice(octets);
-}
-
 // The body of octets that are whole fields.
 fn whole_body(octets: &[u8]) -> Body
     requires { body_fault 0 octets.now ≡ None }
     ensures { body_octets result ≡ octets.now }
 {
     let mut held = [0; 100];
-    put_front(&mut held, octets);
+    held[..octets.len()].copy_from_slice(octets);
     Body {
         octets: held,
         len: octets.len(),
@@ -45,19 +36,12 @@ impl Body {
         whole_body(&[])
     }
 
-    // What holds of every body.
-    fn stands(&self)
-        ensures whole { Whole (body_octets self.now) }
-        ensures short { length (body_octets self.now) ≤ 100 }
-    {}
-
     // Its octets: at most 100, and whole fields.
     pub fn as_slice(&self) -> &[u8]
         ensures is { result.now ≡ body_octets self.now }
         ensures whole { Whole (body_octets self.now) }
         ensures short { length (body_octets self.now) ≤ 100 }
     {
-        self.stands();
-        &self.octets[0..self.len]
+        &self.octets[..self.len]
     }
 }

@@ -1,8 +1,8 @@
 // A record's flags: SRM says on which ports it is to be sent, SSN on which it is to be reported.
 ghost use Rattle.std.specs.Prelude.{◌≡◌, nat_eq};
-ghost use Rattle.record.specs.Flags.{has_port, srm_at, ssn_at, SetsSrm, ClearsSrm, SetsSsn, ClearsSsn};
+ghost use Rattle.record.specs.Ports.{has_port};
+ghost use Rattle.record.specs.Flags.{srm_at, ssn_at, SetsSrm, ClearsSrm, SetsSsn, ClearsSsn};
 
-use crate::bits::{with_bits, without_bits};
 use crate::port::{Port, Ports};
 use crate::record::Record;
 
@@ -11,14 +11,14 @@ impl Record {
     pub fn has_srm(&self, port: Port) -> bool
         ensures { result ≡ srm_at self.now port.n }
     {
-        (self.srm >> port.n) % 2 == 1
+        self.srm.has(port)
     }
 
     // Whether it is to be reported on a port.
     pub fn has_ssn(&self, port: Port) -> bool
         ensures { result ≡ ssn_at self.now port.n }
     {
-        (self.ssn >> port.n) % 2 == 1
+        self.ssn.has(port)
     }
 
     // Sets SRM on these ports; a placeholder stays as it is.
@@ -26,7 +26,7 @@ impl Record {
         ensures { SetsSrm self.old self.new (λ k. has_port ports k) }
     {
         if self.number > 0 {
-            self.srm = with_bits(self.srm, ports.bits);
+            self.srm = self.srm | ports;
         }
     }
 
@@ -41,7 +41,7 @@ impl Record {
     pub fn clear_srm_on(&mut self, ports: Ports)
         ensures { ClearsSrm self.old self.new (λ k. has_port ports k) }
     {
-        self.srm = without_bits(self.srm, ports.bits);
+        self.srm = self.srm - ports;
     }
 
     // Clears SRM on a port.
@@ -55,7 +55,7 @@ impl Record {
     pub fn set_ssn_on(&mut self, ports: Ports)
         ensures { SetsSsn self.old self.new (λ k. has_port ports k) }
     {
-        self.ssn = with_bits(self.ssn, ports.bits);
+        self.ssn = self.ssn | ports;
     }
 
     // Sets SSN on a port.
@@ -69,7 +69,7 @@ impl Record {
     pub fn clear_ssn_on(&mut self, ports: Ports)
         ensures { ClearsSsn self.old self.new (λ k. has_port ports k) }
     {
-        self.ssn = without_bits(self.ssn, ports.bits);
+        self.ssn = self.ssn - ports;
     }
 
     // Clears SSN on a port.

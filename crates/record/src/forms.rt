@@ -9,20 +9,15 @@ use crate::form::{Form, Recency};
 use crate::record::Record;
 use fault::FrameFault;
 use frame::Lsp;
+use std::cmp::Ordering;
 use writer::write_lsp;
 
 impl Record {
-    // What holds of every record.
-    fn stands(&self)
-        ensures { WellFormed self.now }
-    {}
-
     // Its form; whichever it is, the record has what the form asks.
     pub fn form(&self) -> Form
         ensures is { result ≡ form_of self.now }
         ensures has { WellFormed self.now }
     {
-        self.stands();
         if self.lifetime > 0 {
             Form::Live
         } else if self.number > 0 {
@@ -37,16 +32,13 @@ impl Record {
         ensures is { result ≡ recency number live self.now.number (is_live self.now) }
         ensures ranked { Stands result (rank number live) (rank self.now.number (is_live self.now)) }
     {
-        if number > self.number {
-            return Recency::Newer;
+        match number.cmp(&self.number) {
+            Ordering::Greater => Recency::Newer,
+            Ordering::Less => Recency::Older,
+            Ordering::Equal if number == 0 || live == (self.lifetime > 0) => Recency::Same,
+            Ordering::Equal if live => Recency::Older,
+            Ordering::Equal => Recency::Newer,
         }
-        if number < self.number {
-            return Recency::Older;
-        }
-        if number == 0 || live == (self.lifetime > 0) {
-            return Recency::Same;
-        }
-        if live { Recency::Older } else { Recency::Newer }
     }
 
     // The LSP that says it.

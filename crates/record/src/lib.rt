@@ -1,7 +1,6 @@
 // Records of LSPs: their forms, which of two is newer, and their flags.
 #![tactic(auto)]
 
-mod bits;
 mod bodies;
 mod body;
 mod flags;

@@ -1,15 +1,13 @@
 // Records as they are made.
-ghost use Rattle.std.specs.Prelude.{◌≡◌, ◌^◌, ◌<◌, ◌≤◌, true, MatchOption};
-ghost use Rattle.octets.specs.Octets.{value};
-ghost use Rattle.octets.specs.Checks.{right, check_octets};
-ghost use Rattle.frame.specs.Messages.{covered_part};
+ghost use Rattle.std.specs.Prelude.{◌≡◌, ◌≤◌, true, MatchOption};
 ghost use Rattle.frame.specs.Meaning.{lsp_said};
 ghost use Rattle.frame.specs.Trip.{LspFits};
 ghost use Rattle.record.specs.Fields.{formed};
-ghost use Rattle.record.specs.Bodies.{pdu, lsp_by};
-ghost use Rattle.record.specs.Forms.{Made, Emptied, issued, unchecked_issue};
+ghost use Rattle.record.specs.Bodies.{body_octets};
+ghost use Rattle.record.specs.Forms.{record_said, Unflagged, Made, Emptied, issued};
 
 use crate::body::Body;
+use crate::port::Ports;
 use crate::record::Record;
 use frame::Lsp;
 use octets::{CheckOctets, LspId};
@@ -17,45 +15,27 @@ use writer::computed_check;
 
 const NO_CHECK: CheckOctets = CheckOctets { x: 0, y: 0 };
 
-// An identifier's octets fit its eight octets.
-fn fitting(id: LspId) -> LspId
-    ensures is { result ≡ id }
-    ensures under { value result < 256 ^ 8 }
+// The record that says an LSP, with its body as a record holds it, and without flags.
+fn unflagged(m: &Lsp<'_>, body: Body, wait: u8) -> Record
+    requires body { body_octets body ≡ m.now.body.now }
+    requires form { formed (lsp_said m.now) wait ≡ true }
+    ensures said { record_said result ≡ lsp_said m.now }
+    ensures id { result.id ≡ m.now.id }
+    ensures check { result.check ≡ m.now.check }
+    ensures wait { result.wait ≡ wait }
+    ensures none { Unflagged result }
 {
-    id
-}
-
-// Whether the check octets are those of what is said.
-fn is_checked(id: LspId, number: u32, check: CheckOctets, flags: u8, body: &[u8]) -> bool
-    ensures { result ≡ right 13 (covered_part (lsp_by 0 id number check flags body.now)) }
-{
-    let said = Lsp {
-        lifetime: 0,
-        id,
-        number,
-        check,
-        flags,
+    Record {
+        id: m.id,
+        number: m.number,
+        lifetime: m.lifetime,
+        check: m.check,
+        flags: m.flags,
         body,
-    };
-    let computed = computed_check(&said);
-    computed.x == check.x && computed.y == check.y
-}
-
-// The check octets of an issue, which is live with them.
-fn issue_check(id: LspId, number: u32, body: &Body) -> CheckOctets
-    requires { 1 ≤ number }
-    ensures is { result ≡ check_octets 13 (covered_part (unchecked_issue id number body.now)) }
-    ensures live { formed (pdu id number 1200 result 1 body.now) 0 ≡ true }
-{
-    let said = Lsp {
-        lifetime: 1200,
-        id,
-        number,
-        check: NO_CHECK,
-        flags: 1,
-        body: body.as_slice(),
-    };
-    computed_check(&said)
+        wait,
+        srm: Ports::none(),
+        ssn: Ports::none(),
+    }
 }
 
 // Nothing but a number and a flag octet, and these only where the number is not 0.
@@ -63,17 +43,15 @@ fn emptied(id: LspId, number: u32, flags: u8) -> Record
     requires { number ≡ 0 → flags ≡ 0 }
     ensures { Emptied id number flags result }
 {
-    Record {
-        id: fitting(id),
-        number,
+    let said = Lsp {
         lifetime: 0,
+        id,
+        number,
         check: NO_CHECK,
         flags,
-        body: Body::empty(),
-        wait: 60,
-        srm: 0,
-        ssn: 0,
-    }
+        body: &[],
+    };
+    unflagged(&said, Body::empty(), 60)
 }
 
 impl Record {
@@ -84,23 +62,11 @@ impl Record {
         if m.lifetime == 0 || m.lifetime > 1200 || m.number == 0 {
             return None;
         }
-        if !is_checked(m.id, m.number, m.check, m.flags, m.body) {
+        if computed_check(m) != m.check {
             return None;
         }
-        let Ok(body) = Body::new(m.body) else {
-            return None;
-        };
-        Some(Record {
-            id: fitting(m.id),
-            number: m.number,
-            lifetime: m.lifetime,
-            check: m.check,
-            flags: m.flags,
-            body,
-            wait: 0,
-            srm: 0,
-            ssn: 0,
-        })
+        let body = Body::new(m.body).ok()?;
+        Some(unflagged(m, body, 0))
     }
 
     // The record of an issue, unless its number is 0: lifetime 1,200, flag octet 01, computed check octets.
@@ -110,19 +76,16 @@ impl Record {
         if number == 0 {
             return None;
         }
-        let id = fitting(id);
-        let check = issue_check(id, number, &body);
-        Some(Record {
+        let mut said = Lsp {
+            lifetime: 1200,
             id,
             number,
-            lifetime: 1200,
-            check,
+            check: NO_CHECK,
             flags: 1,
-            body,
-            wait: 0,
-            srm: 0,
-            ssn: 0,
-        })
+            body: body.as_slice(),
+        };
+        said.check = computed_check(&said);
+        Some(unflagged(&said, body, 0))
     }
 
     // The purge of a number, unless that is 0; it waits 60.

@@ -2,14 +2,14 @@
 ghost use Rattle.std.specs.Prelude.{◌<◌};
 
 // A router's own number for an attachment, 0 to 7. It is no circuit's number.
-#[derive(Clone, Copy)]
+#[derive(Clone, Copy, PartialEq, Eq, Debug)]
 pub struct Port {
     pub(crate) n: u8,
     ghost few: { n < 8 },
 }
 
 // A set of ports: bit k stands for port k.
-#[derive(Clone, Copy)]
+#[derive(Clone, Copy, PartialEq, Eq, Debug)]
 pub struct Ports {
     pub(crate) bits: u8,
     ghost few: { bits < 256 },

@@ -5,6 +5,7 @@ ghost use Rattle.record.specs.Fields.{formed, quiet};
 ghost use Rattle.record.specs.Bodies.{pdu};
 
 use crate::body::Body;
+use crate::port::Ports;
 use octets::{CheckOctets, LspId};
 
 // What a router holds of one LSP: live, a purge or a placeholder.
@@ -18,10 +19,11 @@ pub struct Record {
     pub(crate) flags: u8,
     pub(crate) body: Body,
     pub(crate) wait: u8,
-    // bit k: to be sent on port k
-    pub(crate) srm: u8,
-    // bit k: to be reported on port k
-    pub(crate) ssn: u8,
+    // where it is to be sent
+    pub(crate) srm: Ports,
+    // where it is to be reported
+    pub(crate) ssn: Ports,
+    // The two bounds are those of the types. A function is told them only of fields that it reads, and lemmas are about any record.
     ghost sized: { value id < 256 ^ 8 },
     ghost numbered: { number < 256 ^ 4 },
     ghost form: { formed (pdu id number lifetime check flags body) wait ≡ true },

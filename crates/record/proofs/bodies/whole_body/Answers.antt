@@ -1,17 +1,19 @@
-use Rattle.std.proofs.Common.{ap, ◌∙◌, arith}
+use Rattle.std.proofs.Common.{◌≡◌, ℕ, true, List, ◌++◌, length, take, ap, ◌∙◌}
+use Rattle.std.proofs.Math.Seq.{take-append_seam}
+use Rattle.octets.specs.Fields.{Whole}
 use Rattle.octets.proofs.FieldLaws.{body_whole}
 use Rattle.record.specs.Fields.{whole_fields}
 use Rattle.record.proofs.FormLaws.{whole_test, fault_short}
 use Rattle.record.proofs.bodies.whole_body.Goals as goal
 
-pub put_front-requires : goal.put_front-requires
-put_front-requires c = let h = fault_short 0 c.args.octets.now c.requires in omega arith
+-- whole fields at the front of an array
+front_whole : (a w d : List ℕ) → a ≡ w → Whole w → whole_fields (take (length w) (a ++ d)) ≡ true
+front_whole a w d e h = let p : take (length w) (a ++ d) ≡ w = rw e (take-append_seam w d) in ap whole_fields p ∙ whole_test w h
 
 pub invariant_of-result : goal.invariant_of-result
 invariant_of-result c =
-    let h = fault_short 0 c.args.octets.now c.requires in
+    let octets = c.args.octets.now in
     record {
-      room = omega arith;
-      few = h;
-      fields = ap whole_fields c.put_front.ensures ∙ whole_test c.args.octets.now (body_whole 0 c.args.octets.now c.requires);
+      few = fault_short 0 octets c.requires;
+      fields = front_whole _ octets _ c.copy_from_slice.ensures.after (body_whole 0 octets c.requires);
     }
