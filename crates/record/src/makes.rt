@@ -1,5 +1,5 @@
 // Records as they are made.
-ghost use Rattle.std.specs.Prelude.{◌≡◌, ◌^◌, ◌<◌, ◌≤◌, true, MatchOption};
+ghost use Rattle.std.specs.Prelude.{◌≡◌, ◌^◌, ◌<◌, ◌≤◌, true, MatchOption, replicate};
 ghost use Rattle.octets.specs.Octets.{value};
 ghost use Rattle.octets.specs.Checks.{right, check_octets};
 ghost use Rattle.frame.specs.Messages.{covered_part};
@@ -141,5 +141,14 @@ impl Record {
         ensures { Emptied id 0 0 result }
     {
         emptied(id, 0, 0)
+    }
+}
+
+// A placeholder of the identifier 0.
+impl Default for Record {
+    ghost is_default = { Emptied (replicate 8 0) 0 0 };
+
+    fn default() -> Self {
+        Record::placeholder([0; 8])
     }
 }

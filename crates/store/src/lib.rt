@@ -10,8 +10,6 @@ ghost use Rattle.store.specs.Calls.{router_fault, Sets, Removes};
 mod asks;
 mod requests;
 mod row;
-mod rows;
-mod slides;
 mod table;
 mod tables;
 

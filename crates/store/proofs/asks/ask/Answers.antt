@@ -1,6 +1,6 @@
 use Rattle.std.proofs.Common.{Err, ap, ◌∙◌}
 use Rattle.std.proofs.lemmas.Result.{err_from_is_err_and}
-use Rattle.store.specs.Tabling.{set_refused}
+use Rattle.store.proofs.RowCalls.{set_refused}
 use Rattle.store.proofs.asks.ask.Goals as goal
 
 pub returns-in_err-set-in-Set : goal.returns-in_err-set-in-Set

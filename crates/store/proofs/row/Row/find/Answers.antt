@@ -1,14 +1,10 @@
-use native.Mathlib.Nat.{sub-zero}
+use Rattle.std.proofs.Common.{sym, ◌∙◌}
 use Rattle.octets.specs.Octets.{value}
-use Rattle.store.specs.Rowing.{row_found, row_missing}
+use Rattle.store.proofs.Places.{found_at, lookup_gap}
 use Rattle.store.proofs.row.Row.find.Goals as goal
 
-pub returns-then-at-n : goal.returns-then-at-n
-returns-then-at-n c =
-    row_found c.args.self.now (value c.args.id) c.seek-at.result _ (sub-zero c.args.self.now.count) c.seek-at.ensures
-    c.index-self-at.result c.if-at-n.true
+pub returns-in-Ok : goal.returns-in-Ok
+returns-in-Ok c = c.nth.ensures ∙ sym (found_at (value c.args.id) c.args.self.now.records.items c.in-Ok.at c.args.self.now.rising c.in-Ok.ensures)
 
-pub returns-else-at-n : goal.returns-else-at-n
-returns-else-at-n c =
-    row_missing c.args.self.now (value c.args.id) c.seek-at.result _ (sub-zero c.args.self.now.count) c.seek-at.ensures
-    c.if-at-n.false
+pub returns-in-Err : goal.returns-in-Err
+returns-in-Err c = sym (lookup_gap (value c.args.id) c.args.self.now.records.items c.in-Err.field-0 c.in-Err.ensures)

@@ -1,34 +1,30 @@
-use Rattle.std.proofs.Common.{arith}
-use native.Mathlib.Nat.{sub-zero}
+use Rattle.std.proofs.Common.{Some, sym, ap, ◌∙◌, arith}
 use Rattle.octets.specs.Octets.{value}
-use Rattle.store.specs.Rowing.{row_found, row_missing, row_stays, shrunk_row}
+use Rattle.store.specs.Lists.{rises}
+use Rattle.store.proofs.Places.{lookup_at, lookup_gap, without_at, without_gap, rises_without}
 use Rattle.store.proofs.row.Row.remove.Goals as goal
-
-pub returns-then-at-n : goal.returns-then-at-n
-returns-then-at-n c =
-    let row = c.args.self.now in
-    let k = value c.args.id in
-    record {
-      is = row_missing row k c.seek-at.result _ (sub-zero row.count) c.seek-at.ensures c.if-at-n.true;
-      after = row_stays row k c.seek-at.result _ (sub-zero row.count) c.seek-at.ensures c.if-at-n.true;
-    }
 
 pub invariant_of-self : goal.invariant_of-self
 invariant_of-self c =
     let row = c.args.self.now in
-    let h =
-    shrunk_row row c.close.new.items _ (sub-zero row.count) c.close.auto.items (value c.args.id) c.seek-at.result c.seek-at.ensures
-    c.if-at-n.false c.close.ensures
-    in
-    record { few = omega (arith, row.few); room = h.room; rising = h.rising }
-
-pub returns : goal.returns
-returns c =
-    let row = c.args.self.now in
+    let e = c.remove.ensures.items ∙ sym (without_at (value c.args.id) row.records.items c.in-Ok.at row.rising c.in-Ok.ensures) in
     record {
-      is =
-          row_found row (value c.args.id) c.seek-at.result _ (sub-zero row.count) c.seek-at.ensures c.index-self-at.result c.if-at-n.false;
-      after =
-          (shrunk_row row c.close.new.items _ (sub-zero row.count) c.close.auto.items (value c.args.id) c.seek-at.result c.seek-at.ensures
-          c.if-at-n.false c.close.ensures).front;
+      few = omega (arith, c.remove.ensures.len, row.few);
+      rising = ap rises e ∙ rises_without (value c.args.id) row.records.items row.rising;
     }
+
+pub returns-in-Ok-clause-is : goal.returns-in-Ok-clause-is
+returns-in-Ok-clause-is c =
+    let row = c.args.self.now in
+    ap Some c.remove.ensures.value ∙ sym (lookup_at (value c.args.id) row.records.items c.in-Ok.at c.remove.result row.rising c.in-Ok.ensures)
+
+pub returns-in-Ok-clause-after : goal.returns-in-Ok-clause-after
+returns-in-Ok-clause-after c =
+    let row = c.args.self.now in
+    c.remove.ensures.items ∙ sym (without_at (value c.args.id) row.records.items c.in-Ok.at row.rising c.in-Ok.ensures)
+
+pub returns-in-Err-clause-is : goal.returns-in-Err-clause-is
+returns-in-Err-clause-is c = sym (lookup_gap (value c.args.id) c.args.self.now.records.items c.in-Err.field-0 c.in-Err.ensures)
+
+pub returns-in-Err-clause-after : goal.returns-in-Err-clause-after
+returns-in-Err-clause-after c = sym (without_gap (value c.args.id) c.args.self.now.records.items c.in-Err.field-0 c.in-Err.ensures)

@@ -1,0 +1,56 @@
+-- Calls of the table by its rows.
+use Rattle.std.proofs.Common.{◌≡◌, ℕ, zero, suc, ◌<◌, Bool, true, false, cond, List, [], ◌∷◌, length, get_or, map, replicate, is_ok, Some, None, Ok, Err, Result, refl, sym, ap, ◌∙◌, slice_set, arith}
+use Rattle.std.proofs.lemmas.Bool.{lt-leb}
+use Rattle.std.proofs.lemmas.Bool.Decides.{nat_tests}
+use Rattle.std.proofs.lemmas.List.{get_or-map, map-set, set-get_or}
+use Rattle.fault.specs.declared.CallFault.{CallFault}
+use Rattle.fault.specs.declared.CallFault.TheVariants.{Full}
+use Rattle.fault.specs.Order.{fails, unless, first_refusal}
+use Rattle.fault.proofs.Laws.{unless_err}
+use Rattle.record.specs.declared.record.Record.{Record}
+use Rattle.store.specs.declared.row.Row.{Row}
+use Rattle.store.specs.declared.requests.Request.{Request}
+use Rattle.store.specs.declared.requests.Request.TheVariants.{Set}
+use Rattle.store.specs.Asking.{reply, asked}
+use Rattle.store.specs.Lists.{Lists, of_router, placed}
+use Rattle.store.specs.Calls.{set_fault, is_full, Sets}
+use Rattle.store.specs.Kept.{kept, all_kept}
+
+-- no records in any row
+pub none_kept : (ws : List Row) (n : ℕ) → length ws ≡ n → ((i : ℕ) (d : Row) → i < n → kept (get_or ws i d) ≡ []) → all_kept ws ≡ replicate n []
+none_kept [] zero e h = refl
+none_kept [] (suc n) e h = absurd (omega arith)
+none_kept (w ∷ ws) zero e h = absurd (omega arith)
+none_kept (w ∷ ws) (suc n) e h =
+    let first : kept w ≡ [] = h 0 w (omega arith) in
+    let rest = none_kept ws n (omega arith) (λ i d l. h (suc i) d (omega arith)) in
+    cc
+
+-- the refusal of a set to a router that there is
+full_alone : (b : Bool) → first_refusal (None ∷ fails b Full ∷ []) ≡ fails b Full
+full_alone true = refl
+full_alone false = refl
+
+fault_is : (t : Lists) (r : ℕ) (x : Record) → r < 8 → set_fault t r x ≡ fails (is_full x (of_router t r)) Full
+fault_is t r x l = rw (lt-leb 8 r l) (full_alone (is_full x (of_router t r)))
+
+-- a set in the row at r, where v stands afterwards
+module _ (ws : List Row) (r : ℕ) (d v : Row) (x : Record) (a : Result (Unit {0}) CallFault) (l : r < length ws) (n : length ws ≡ 8) where
+  pub row_sets :
+      a ≡ unless (fails (is_full x (kept (get_or ws r d))) Full) tt →
+      kept v ≡ cond (is_ok a) (placed x (kept (get_or ws r d))) (kept (get_or ws r d)) →
+      Sets (all_kept ws) (all_kept (slice_set ws r v)) r x a
+  row_sets is after =
+      let e = get_or-map kept ws r d [] l in
+      record {
+        is = rw (fault_is (all_kept ws) r x (omega arith), e) is;
+        after = grind (arith, map-set kept ws r v, set-get_or (all_kept ws) r []);
+      }
+
+-- a set that is refused, as one of the requests
+pub set_refused :
+    (t u : Lists) (r : ℕ) (x : Record) (a : Result (Unit {0}) CallFault) (q : Request) (e : CallFault) →
+    q ≡ Set x → Sets t u r x a → a ≡ Err e → (Err e ≡ reply t r q) × (u ≡ asked t r q)
+set_refused t u r x a q e p s w =
+    let f : set_fault t r x ≡ Some e = unless_err (set_fault t r x) tt e (sym s.is ∙ w) in
+    rw (p, f) (refl, grind (arith, s.after))
