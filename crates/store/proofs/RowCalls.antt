@@ -1,7 +1,6 @@
 -- Calls of the table by its rows.
-use Rattle.std.proofs.Common.{◌≡◌, ℕ, zero, suc, ◌<◌, Bool, true, false, cond, List, [], ◌∷◌, length, get_or, map, replicate, is_ok, Some, None, Ok, Err, Result, refl, sym, ap, ◌∙◌, slice_set, arith}
+use Rattle.std.proofs.Common.{◌≡◌, ℕ, zero, suc, ◌<◌, Bool, true, false, cond, List, [], ◌∷◌, length, get_or, replicate, is_ok, Some, None, Err, Result, refl, sym, ◌∙◌, slice_set, arith}
 use Rattle.std.proofs.lemmas.Bool.{lt-leb}
-use Rattle.std.proofs.lemmas.Bool.Decides.{nat_tests}
 use Rattle.std.proofs.lemmas.List.{get_or-map, map-set, set-get_or}
 use Rattle.fault.specs.declared.CallFault.{CallFault}
 use Rattle.fault.specs.declared.CallFault.TheVariants.{Full}

@@ -1,6 +1,5 @@
-use Rattle.std.proofs.Common.{rules, ◌≡◌, Result, Ok, Err, MatchResult, ap, ◌∙◌, arith, sym, length}
+use Rattle.std.proofs.Common.{rules, ◌≡◌, Ok, Err, MatchResult, ap, ◌∙◌, arith, length}
 use Rattle.fault.specs.declared.CallFault.TheVariants.{Full}
-use Rattle.fault.specs.Order.{fails, unless}
 use Rattle.store.specs.Lists.{rises}
 use Rattle.store.proofs.Places.{replaced, replaced_long, not_full, rises_placed, inserted, answered, inserted_rises, inserted_few}
 use Rattle.store.proofs.row.Row.set.Goals as goal
