@@ -1,6 +1,7 @@
 -- Calls of the table by its rows.
 use Rattle.std.proofs.Common.{◌≡◌, ℕ, zero, suc, ◌<◌, Bool, true, false, cond, List, [], ◌∷◌, length, get_or, replicate, is_ok, Some, None, Err, Result, refl, sym, ◌∙◌, slice_set, arith}
 use Rattle.std.proofs.lemmas.Bool.{lt-leb}
+use Rattle.std.proofs.lemmas.Grind.{common_steps}
 use Rattle.std.proofs.lemmas.List.{get_or-map, map-set, set-get_or}
 use Rattle.fault.specs.declared.CallFault.{CallFault}
 use Rattle.fault.specs.declared.CallFault.TheVariants.{Full}
@@ -30,8 +31,10 @@ full_alone : (b : Bool) → first_refusal (None ∷ fails b Full ∷ []) ≡ fai
 full_alone true = refl
 full_alone false = refl
 
-fault_is : (t : Lists) (r : ℕ) (x : Record) → r < 8 → set_fault t r x ≡ fails (is_full x (of_router t r)) Full
+pub fault_is : (t : Lists) (r : ℕ) (x : Record) → r < 8 → set_fault t r x ≡ fails (is_full x (of_router t r)) Full
 fault_is t r x l = rw (lt-leb 8 r l) (full_alone (is_full x (of_router t r)))
+
+pub ruleset table_steps = (common_steps, fault_is, map-set)
 
 -- a set in the row at r, where v stands afterwards
 module _ (ws : List Row) (r : ℕ) (d v : Row) (x : Record) (a : Result (Unit {0}) CallFault) (l : r < length ws) (n : length ws ≡ 8) where

@@ -1,9 +1,10 @@
 // One router's records in the table.
 ghost use Rattle.std.specs.Prelude.{◌≡◌, ◌≤◌, true, cond, [], length, is_ok, MatchResult};
+ghost use Rattle.std.specs.Ordering.{nat_cmp};
 ghost use Rattle.fault.specs.declared.CallFault.TheVariants.{Full};
 ghost use Rattle.fault.specs.Order.{fails, unless};
 ghost use Rattle.octets.specs.Octets.{value};
-ghost use Rattle.store.specs.Lists.{rises, lookup, placed, without, nth as nth_of};
+ghost use Rattle.store.specs.Lists.{key_of, rises, lookup, placed, without, nth as nth_of};
 ghost use Rattle.store.specs.Calls.{is_full};
 ghost use Rattle.store.specs.Search.{IsAt, IsGap};
 
@@ -11,6 +12,14 @@ use arrayvec::ArrayVec;
 use fault::CallFault;
 use octets::{LspId, order};
 use record::Record;
+use std::cmp::Ordering;
+
+// How the identifier of a record stands to another.
+fn order_of(item: &Record, id: LspId) -> Ordering
+    ensures { result ≡ nat_cmp (key_of item.now) (value id) }
+{
+    order(item.id(), id)
+}
 
 // At most 32 records, by rising identifier.
 #[derive(Drop)]
@@ -36,14 +45,14 @@ impl Row {
     {
         self.records
             .as_slice()
-            .binary_search_by(|item| order(item.id(), id))
+            .binary_search_by(|item| order_of(item, id))
     }
 
     pub(crate) fn find(&self, id: LspId) -> Option<Record>
         ensures { result ≡ lookup (value id) self.now.records.items }
     {
         match self.search(id) {
-            Ok(at) => self.nth(at),
+            Ok(at) => Some(self.records[at]),
             Err(_) => None,
         }
     }
@@ -60,6 +69,7 @@ impl Row {
         self.records.as_slice().get(n).copied()
     }
 
+    #[tactic(auto, using(crate::proofs::Places::row_steps))]
     pub(crate) fn set(&mut self, item: Record) -> Result<(), CallFault>
         ensures is { result ≡ unless (fails (is_full item self.old.records.items) Full) tt }
         ensures after { self.new.records.items ≡ cond (is_ok result) (placed item self.old.records.items) self.old.records.items }
@@ -76,6 +86,7 @@ impl Row {
         }
     }
 
+    #[tactic(auto, using(crate::proofs::Places::row_steps))]
     pub(crate) fn remove(&mut self, id: LspId) -> Option<Record>
         ensures is { result ≡ lookup (value id) self.old.records.items }
         ensures after { self.new.records.items ≡ without (value id) self.old.records.items }

@@ -20,6 +20,7 @@ impl Store for Table {
 
     ghost few = { λ s r. all_few s.rows r };
 
+    #[tactic(auto, using(crate::proofs::RowCalls::table_steps))]
     fn set(&mut self, router: usize, item: Record) -> Result<(), CallFault> {
         if router >= self.rows.len() {
             return Err(CallFault::Unknown);
