@@ -1,18 +1,18 @@
--- Calls of the table by its rows.
-use Rattle.std.proofs.Common.{◌≡◌, ℕ, zero, suc, ◌<◌, Bool, true, false, cond, List, [], ◌∷◌, length, get_or, replicate, is_ok, Some, None, Err, Result, refl, sym, ◌∙◌, slice_set, arith}
+-- The table by its rows.
+use Rattle.std.proofs.Common.{◌≡◌, ℕ, zero, suc, ◌<◌, Bool, true, false, List, [], ◌∷◌, length, get_or, replicate, Some, None, Err, Result, refl, sym, ◌∙◌, arith}
 use Rattle.std.proofs.lemmas.Bool.{lt-leb}
 use Rattle.std.proofs.lemmas.Grind.{common_steps}
 use Rattle.std.proofs.lemmas.List.{get_or-map, map-set, set-get_or}
 use Rattle.fault.specs.declared.CallFault.{CallFault}
 use Rattle.fault.specs.declared.CallFault.TheVariants.{Full}
-use Rattle.fault.specs.Order.{fails, unless, first_refusal}
+use Rattle.fault.specs.Order.{fails, first_refusal}
 use Rattle.fault.proofs.Laws.{unless_err}
 use Rattle.record.specs.declared.record.Record.{Record}
 use Rattle.store.specs.declared.row.Row.{Row}
 use Rattle.store.specs.declared.requests.Request.{Request}
 use Rattle.store.specs.declared.requests.Request.TheVariants.{Set}
 use Rattle.store.specs.Asking.{reply, asked}
-use Rattle.store.specs.Lists.{Lists, of_router, placed}
+use Rattle.store.specs.Lists.{Lists, of_router}
 use Rattle.store.specs.Calls.{set_fault, is_full, Sets}
 use Rattle.store.specs.Kept.{kept, all_kept}
 
@@ -35,19 +35,6 @@ pub fault_is : (t : Lists) (r : ℕ) (x : Record) → r < 8 → set_fault t r x 
 fault_is t r x l = rw (lt-leb 8 r l) (full_alone (is_full x (of_router t r)))
 
 pub ruleset table_steps = (common_steps, fault_is, map-set)
-
--- a set in the row at r, where v stands afterwards
-module _ (ws : List Row) (r : ℕ) (d v : Row) (x : Record) (a : Result (Unit {0}) CallFault) (l : r < length ws) (n : length ws ≡ 8) where
-  pub row_sets :
-      a ≡ unless (fails (is_full x (kept (get_or ws r d))) Full) tt →
-      kept v ≡ cond (is_ok a) (placed x (kept (get_or ws r d))) (kept (get_or ws r d)) →
-      Sets (all_kept ws) (all_kept (slice_set ws r v)) r x a
-  row_sets is after =
-      let e = get_or-map kept ws r d [] l in
-      record {
-        is = rw (fault_is (all_kept ws) r x (omega arith), e) is;
-        after = grind (arith, map-set kept ws r v, set-get_or (all_kept ws) r []);
-      }
 
 -- a set that is refused, as one of the requests
 pub set_refused :
