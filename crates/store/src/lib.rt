@@ -11,7 +11,6 @@ mod asks;
 mod requests;
 mod row;
 mod table;
-mod tables;
 
 pub use asks::{ask, ask_both};
 use fault::CallFault;
