@@ -7,6 +7,7 @@ use crate::requests::{Reply, Request};
 use fault::CallFault;
 
 // What a store answers depends on its meaning alone, and so does what it means afterwards.
+#[tactic(auto, using(crate::proofs::TableLaws::request_steps))]
 pub fn ask<S: Store>(store: &mut S, router: usize, request: Request) -> Result<Reply, CallFault>
     ensures is { result ≡ reply (S.lists store.old) router request }
     ensures after { S.lists store.new ≡ asked (S.lists store.old) router request }

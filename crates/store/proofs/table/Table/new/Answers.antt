@@ -1,5 +1,5 @@
 use Rattle.std.proofs.Common.{rules}
-use Rattle.store.proofs.RowCalls.{none_kept}
+use Rattle.store.proofs.TableLaws.{none_kept}
 use Rattle.store.proofs.table.Table.new.Goals as goal
 
 pub returns : goal.returns

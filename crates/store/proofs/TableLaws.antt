@@ -1,19 +1,15 @@
 -- The table by its rows.
-use Rattle.std.proofs.Common.{◌≡◌, ℕ, zero, suc, ◌<◌, Bool, true, false, List, [], ◌∷◌, length, get_or, replicate, Some, None, Err, Result, refl, sym, ◌∙◌, arith}
+use Rattle.std.proofs.Common.{◌≡◌, ℕ, zero, suc, ◌<◌, Bool, true, false, List, [], ◌∷◌, length, get_or, replicate, None, refl, arith}
 use Rattle.std.proofs.lemmas.Bool.{lt-leb}
 use Rattle.std.proofs.lemmas.Grind.{common_steps}
 use Rattle.std.proofs.lemmas.List.{get_or-map, map-set, set-get_or}
-use Rattle.fault.specs.declared.CallFault.{CallFault}
 use Rattle.fault.specs.declared.CallFault.TheVariants.{Full}
 use Rattle.fault.specs.Order.{fails, first_refusal}
 use Rattle.fault.proofs.Laws.{unless_err}
 use Rattle.record.specs.declared.record.Record.{Record}
 use Rattle.store.specs.declared.row.Row.{Row}
-use Rattle.store.specs.declared.requests.Request.{Request}
-use Rattle.store.specs.declared.requests.Request.TheVariants.{Set}
-use Rattle.store.specs.Asking.{reply, asked}
 use Rattle.store.specs.Lists.{Lists, of_router}
-use Rattle.store.specs.Calls.{set_fault, is_full, Sets}
+use Rattle.store.specs.Calls.{set_fault, is_full}
 use Rattle.store.specs.Kept.{kept, all_kept}
 
 -- no records in any row
@@ -36,10 +32,4 @@ fault_is t r x l = rw (lt-leb 8 r l) (full_alone (is_full x (of_router t r)))
 
 pub ruleset table_steps = (common_steps, fault_is, map-set)
 
--- a set that is refused, as one of the requests
-pub set_refused :
-    (t u : Lists) (r : ℕ) (x : Record) (a : Result (Unit {0}) CallFault) (q : Request) (e : CallFault) →
-    q ≡ Set x → Sets t u r x a → a ≡ Err e → (Err e ≡ reply t r q) × (u ≡ asked t r q)
-set_refused t u r x a q e p s w =
-    let f : set_fault t r x ≡ Some e = unless_err (set_fault t r x) tt e (sym s.is ∙ w) in
-    rw (p, f) (refl, grind (arith, s.after))
+pub ruleset request_steps = (common_steps, unless_err)
