@@ -24,7 +24,7 @@ fn order_of(item: &Record, id: LspId) -> Ordering
 // At most 32 records, by rising identifier.
 #[derive(Drop)]
 pub(crate) struct Row {
-    pub(crate) records: ArrayVec<Record, 32>,
+    records: ArrayVec<Record, 32>,
     ghost few: { length records.items ≤ 32 },
     ghost rising: { rises records.items ≡ true },
 }

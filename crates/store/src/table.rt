@@ -9,10 +9,11 @@ use crate::row::Row;
 use fault::CallFault;
 use octets::LspId;
 use record::Record;
+use std::array;
 
 #[derive(Drop)]
 pub struct Table {
-    pub(crate) rows: [Row; 8],
+    rows: [Row; 8],
     ghost eight: { length rows ≡ 8 },
 }
 
@@ -64,7 +65,7 @@ impl Table {
         ensures { all_kept result.rows ≡ replicate 8 [] }
     {
         Table {
-            rows: std::array::from_fn(|_| Row::new()),
+            rows: array::from_fn(|_| Row::new()),
         }
     }
 }
