@@ -1,5 +1,5 @@
 // Records as they are made.
-ghost use Rattle.std.specs.Prelude.{◌≡◌, ◌≤◌, true, MatchOption};
+ghost use Rattle.std.specs.Prelude.{◌≡◌, ◌≤◌, true, MatchOption, replicate};
 ghost use Rattle.frame.specs.Meaning.{lsp_said};
 ghost use Rattle.frame.specs.Trip.{LspFits};
 ghost use Rattle.record.specs.Fields.{formed};
@@ -104,5 +104,14 @@ impl Record {
         ensures { Emptied id 0 0 result }
     {
         emptied(id, 0, 0)
+    }
+}
+
+// A placeholder of the identifier 0.
+impl Default for Record {
+    ghost is_default = { Emptied (replicate 8 0) 0 0 };
+
+    fn default() -> Self {
+        Record::placeholder([0; 8])
     }
 }

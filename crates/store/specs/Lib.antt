@@ -1,9 +1,5 @@
 pub mod Lists
 pub mod Calls
-pub mod Sliding
+pub mod Search
 pub mod Kept
 pub mod Asking
-pub mod Tabling
-pub mod Rowing
-pub mod Placing
-pub mod Removing

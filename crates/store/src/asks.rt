@@ -7,9 +7,10 @@ use crate::requests::{Reply, Request};
 use fault::CallFault;
 
 // What a store answers depends on its meaning alone, and so does what it means afterwards.
+#[tactic(auto, using(crate::proofs::TableLaws::request_steps))]
 pub fn ask<S: Store>(store: &mut S, router: usize, request: Request) -> Result<Reply, CallFault>
-    ensures is { result ≡ reply (S.Store.lists store.old) router request }
-    ensures after { S.Store.lists store.new ≡ asked (S.Store.lists store.old) router request }
+    ensures is { result ≡ reply (S.lists store.old) router request }
+    ensures after { S.lists store.new ≡ asked (S.lists store.old) router request }
 {
     match request {
         Request::Set(item) => {
@@ -30,8 +31,8 @@ pub fn ask_both<S: Store, T: Store>(
     router: usize,
     request: Request,
 ) -> (Result<Reply, CallFault>, Result<Reply, CallFault>)
-    ensures alike { S.Store.lists one.old ≡ T.Store.lists other.old → result.0 ≡ result.1 }
-    ensures after { S.Store.lists one.old ≡ T.Store.lists other.old → S.Store.lists one.new ≡ T.Store.lists other.new }
+    ensures alike { S.lists one.old ≡ T.lists other.old → result.0 ≡ result.1 }
+    ensures after { S.lists one.old ≡ T.lists other.old → S.lists one.new ≡ T.lists other.new }
 {
     let first = ask(one, router, request);
     let second = ask(other, router, request);

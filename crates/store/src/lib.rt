@@ -10,10 +10,7 @@ ghost use Rattle.store.specs.Calls.{router_fault, Sets, Removes};
 mod asks;
 mod requests;
 mod row;
-mod rows;
-mod slides;
 mod table;
-mod tables;
 
 pub use asks::{ask, ask_both};
 use fault::CallFault;

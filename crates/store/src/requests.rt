@@ -1,4 +1,5 @@
 // What is asked of a store, and what it answers.
+// Requests are data: programs print them, and one theorem ranges over all of them.
 use octets::LspId;
 use record::Record;
 

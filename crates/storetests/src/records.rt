@@ -8,14 +8,12 @@ const ID: [u8; 8] = [0, 0, 0, 0, 0, 1, 0, 0];
 
 #[test]
 fn issues(rt: HostRuntime) -> Result<(), Fail> {
-    let Some(item) = Record::issue(ID, 1, Body::empty()) else {
-        return Err(Fail::new("refused"));
-    };
+    let item = Record::issue(ID, 1, Body::empty()).ok_or("refused")?;
     assert_eq!(rt; item.check().x, 0xF6);
     assert_eq!(rt; item.check().y, 0x06);
     assert_eq!(rt; item.lifetime(), 1200);
     assert_eq!(rt; item.flags(), 1);
-    assert!(rt; matches!(item.form(), Form::Live));
+    assert_eq!(rt; item.form(), Form::Live);
     assert!(rt; Record::issue(ID, 0, Body::empty()).is_none());
     Ok(())
 }
@@ -51,35 +49,25 @@ fn heard(rt: HostRuntime) {
 
 #[test]
 fn order(rt: HostRuntime) -> Result<(), Fail> {
-    let Some(live) = Record::issue(ID, 5, Body::empty()) else {
-        return Err(Fail::new("refused"));
-    };
-    let Some(purge) = Record::purge(ID, 4, 1) else {
-        return Err(Fail::new("refused"));
-    };
+    let live = Record::issue(ID, 5, Body::empty()).ok_or("refused")?;
+    let purge = Record::purge(ID, 4, 1).ok_or("refused")?;
     let none = Record::placeholder(ID);
-    assert!(rt; matches!(purge.recency_of(5, true), Recency::Newer));
-    assert!(rt; matches!(live.recency_of(5, false), Recency::Newer));
-    assert!(rt; matches!(live.recency_of(5, true), Recency::Same));
-    assert!(rt; matches!(live.recency_of(4, false), Recency::Older));
-    assert!(rt; matches!(purge.recency_of(4, true), Recency::Older));
-    assert!(rt; matches!(none.recency_of(0, true), Recency::Same));
-    assert!(rt; matches!(none.recency_of(1, true), Recency::Newer));
+    assert_eq!(rt; purge.recency_of(5, true), Recency::Newer);
+    assert_eq!(rt; live.recency_of(5, false), Recency::Newer);
+    assert_eq!(rt; live.recency_of(5, true), Recency::Same);
+    assert_eq!(rt; live.recency_of(4, false), Recency::Older);
+    assert_eq!(rt; purge.recency_of(4, true), Recency::Older);
+    assert_eq!(rt; none.recency_of(0, true), Recency::Same);
+    assert_eq!(rt; none.recency_of(1, true), Recency::Newer);
     Ok(())
 }
 
 #[test]
 fn flags(rt: HostRuntime) -> Result<(), Fail> {
-    let Some(two) = Port::new(2) else {
-        return Err(Fail::new("no port"));
-    };
-    let Some(seven) = Port::new(7) else {
-        return Err(Fail::new("no port"));
-    };
+    let two = Port::new(2).ok_or("no port")?;
+    let seven = Port::new(7).ok_or("no port")?;
     assert!(rt; Port::new(8).is_none());
-    let Some(mut item) = Record::issue(ID, 5, Body::empty()) else {
-        return Err(Fail::new("refused"));
-    };
+    let mut item = Record::issue(ID, 5, Body::empty()).ok_or("refused")?;
     item.set_srm(two);
     item.set_ssn_on(Ports::only(two).with(seven));
     assert!(rt; item.has_srm(two) && !item.has_srm(seven));
@@ -97,12 +85,8 @@ fn flags(rt: HostRuntime) -> Result<(), Fail> {
 #[test]
 fn written(rt: HostRuntime) -> Result<(), Fail> {
     let mut buf = [0; 275];
-    let Some(item) = Record::issue(ID, 5, Body::empty()) else {
-        return Err(Fail::new("refused"));
-    };
-    let Some(purge) = Record::purge(ID, 5, 1) else {
-        return Err(Fail::new("refused"));
-    };
+    let item = Record::issue(ID, 5, Body::empty()).ok_or("refused")?;
+    let purge = Record::purge(ID, 5, 1).ok_or("refused")?;
     assert!(rt; item.write(&mut buf).is_ok());
     assert!(rt; item.write(&mut buf[0..274]).is_err());
     assert!(rt; purge.write(&mut buf).is_ok());

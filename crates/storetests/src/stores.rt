@@ -10,10 +10,7 @@ fn id_of(first: u8, last: u8) -> [u8; 8] {
 
 // How many records there are, or 99 where the store refuses.
 fn counted<S: Store>(store: &S, router: usize) -> usize {
-    match store.count(router) {
-        Ok(n) => n,
-        Err(_) => 99,
-    }
+    store.count(router).unwrap_or(99)
 }
 
 // The refusal's number, or 0 where the record was set.
@@ -26,21 +23,15 @@ fn set_number<S: Store>(store: &mut S, router: usize, item: Record) -> u8 {
 
 // Whether a record of an identifier was taken out.
 fn taken<S: Store>(store: &mut S, router: usize, id: [u8; 8]) -> bool {
-    match store.remove(router, id) {
-        Ok(found) => found.is_some(),
-        Err(_) => false,
-    }
+    matches!(store.remove(router, id), Ok(Some(_)))
 }
 
 // The last octet of the n-th record's identifier, or 255.
 fn nth_last<S: Store>(store: &S, router: usize, n: usize) -> u8 {
-    if let Ok(found) = store.nth(router, n) {
-        if let Some(item) = found {
-            let [_, _, _, _, _, _, _, last] = item.id();
-            return last;
-        }
+    match store.nth(router, n) {
+        Ok(Some(item)) => item.id()[7],
+        _ => 255,
     }
-    255
 }
 
 // Sets records from a last octet down, so that each goes to the front.
