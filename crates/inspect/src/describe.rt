@@ -1,106 +1,101 @@
 // What is said of a frame.
 use crate::rewrite::is_written_back;
-use crate::text::{Id, Source};
 use frame::{Csnp, Entries, Entry, FrameReader, Lsp, Message, Psnp};
-use octets::read_field;
-use std::alloc::{AllocError, Global};
+use octets::{ShownId, ShownOctet, ShownSource, read_field};
+use std::fmt;
+use std::fmt::{Formatter, Write};
 
-// One line, or one and an indented line for each field or entry; of a refused frame its refusal.
-pub fn describe_frame(heap: Global, frame: &[u8]) -> anyhow::Result<String> {
-    match FrameReader::new(frame).message() {
-        Err(e) => {
-            let number = e.number();
-            let place = e.place();
-            Ok(format!(in heap; "refused {number} at {place}\n")?)
-        }
-        Ok(m) => {
-            let back = if is_written_back(&m, frame) {
-                "written back the same"
-            } else {
-                "written back otherwise"
-            };
-            match m {
-                Message::Lsp(m) => Ok(describe_lsp(heap, &m, back)?),
-                Message::Csnp(m) => Ok(describe_csnp(heap, &m, back)?),
-                Message::Psnp(m) => Ok(describe_psnp(heap, &m, back)?),
-            }
+// A frame that is to be described: in one line, or in one and an indented line for each field or entry; of a refused frame its refusal.
+#[derive(Clone, Copy)]
+pub struct Described<'a>(pub &'a [u8]);
+
+impl fmt::Display for Described<'_> {
+    fn fmt<W: Write>(&self, f: &mut Formatter<W>) -> fmt::Result {
+        let message = match FrameReader::new(self.0).message() {
+            Ok(message) => message,
+            Err(fault) => return writeln!(f, "{fault}"),
+        };
+        let back = if is_written_back(&message, self.0) {
+            "written back the same"
+        } else {
+            "written back otherwise"
+        };
+        match message {
+            Message::Lsp(m) => describe_lsp(f, &m, back),
+            Message::Csnp(m) => describe_csnp(f, &m, back),
+            Message::Psnp(m) => describe_psnp(f, &m, back),
         }
     }
 }
 
-fn describe_lsp(heap: Global, m: &Lsp<'_>, back: &str) -> Result<String, AllocError> {
-    let id = Id(m.id);
+fn describe_lsp<W: Write>(f: &mut Formatter<W>, m: &Lsp<'_>, back: &str) -> fmt::Result {
+    let id = ShownId(m.id);
     let number = m.number;
     let lifetime = m.lifetime;
-    let x = m.check.x;
-    let y = m.check.y;
-    let flags = m.flags;
+    let check = m.check;
     let checked = if lifetime == 0 { " not checked" } else { "" };
-    let mut s = format!(in heap;
-        "LSP {id} number {number:08X} lifetime {lifetime} check {x:02X}{y:02X}{checked} flags {flags:02X}, {back}\n"
+    let flags = ShownOctet(m.flags);
+    writeln!(
+        f,
+        "LSP {id} number {number:08X} lifetime {lifetime} check {check}{checked} flags {flags}, {back}"
     )?;
-    push_fields(heap, &mut s, m.body)?;
-    Ok(s)
+    describe_fields(f, m.body)
 }
 
 // A line for each field of a body.
-fn push_fields(heap: Global, s: &mut String, body: &[u8]) -> Result<(), AllocError> {
+fn describe_fields<W: Write>(f: &mut Formatter<W>, body: &[u8]) -> fmt::Result {
     let mut rest = body;
-    for _ in 0..body.len() {
-        let Ok((code, value, more)) = read_field(rest, 0) else {
-            return Ok(());
-        };
-        let n = value.len();
-        let line = format!(in heap; "  field {code:02X} length {n} value")?;
-        s.push_str(line.as_str())?;
-        push_octets(heap, s, value)?;
+    while let Ok((code, value, more)) = read_field(rest, 0) {
+        describe_field(f, code, value)?;
         rest = more;
     }
     Ok(())
 }
 
-fn push_octets(heap: Global, s: &mut String, octets: &[u8]) -> Result<(), AllocError> {
-    for b in octets {
-        let octet = format!(in heap; " {b:02X}")?;
-        s.push_str(octet.as_str())?;
+fn describe_field<W: Write>(f: &mut Formatter<W>, code: u8, value: &[u8]) -> fmt::Result {
+    let code = ShownOctet(code);
+    let n = value.len();
+    write!(f, "  field {code} length {n} value")?;
+    for octet in value.iter().copied().map(ShownOctet) {
+        write!(f, " {octet}")?;
     }
-    s.push_str("\n")
+    writeln!(f)
 }
 
-fn describe_csnp(heap: Global, m: &Csnp<'_>, back: &str) -> Result<String, AllocError> {
-    let source = Source(m.source);
-    let start = Id(m.range.start);
-    let end = Id(m.range.end);
+fn describe_csnp<W: Write>(f: &mut Formatter<W>, m: &Csnp<'_>, back: &str) -> fmt::Result {
+    let source = ShownSource(m.source);
+    let start = ShownId(m.range.start);
+    let end = ShownId(m.range.end);
     let count = m.entries.count();
-    let mut s = format!(in heap;
-        "CSNP source {source} from {start} to {end} entries {count}, {back}\n"
+    writeln!(
+        f,
+        "CSNP source {source} from {start} to {end} entries {count}, {back}"
     )?;
-    push_entries(heap, &mut s, &m.entries)?;
-    Ok(s)
+    describe_entries(f, &m.entries)
 }
 
-fn describe_psnp(heap: Global, m: &Psnp<'_>, back: &str) -> Result<String, AllocError> {
-    let source = Source(m.source);
+fn describe_psnp<W: Write>(f: &mut Formatter<W>, m: &Psnp<'_>, back: &str) -> fmt::Result {
+    let source = ShownSource(m.source);
     let count = m.entries.count();
-    let mut s = format!(in heap; "PSNP source {source} entries {count}, {back}\n")?;
-    push_entries(heap, &mut s, &m.entries)?;
-    Ok(s)
+    writeln!(f, "PSNP source {source} entries {count}, {back}")?;
+    describe_entries(f, &m.entries)
 }
 
 // A line for each entry.
-fn push_entries(heap: Global, s: &mut String, entries: &Entries<'_>) -> Result<(), AllocError> {
+fn describe_entries<W: Write>(f: &mut Formatter<W>, entries: &Entries<'_>) -> fmt::Result {
     for e in entries.iter() {
-        let line = describe_entry(heap, &e)?;
-        s.push_str(line.as_str())?;
+        describe_entry(f, &e)?;
     }
     Ok(())
 }
 
-fn describe_entry(heap: Global, e: &Entry) -> Result<String, AllocError> {
-    let id = Id(e.id);
+fn describe_entry<W: Write>(f: &mut Formatter<W>, e: &Entry) -> fmt::Result {
+    let id = ShownId(e.id);
     let number = e.number;
     let lifetime = e.lifetime;
-    let x = e.check.x;
-    let y = e.check.y;
-    format!(in heap; "  {id} number {number:08X} lifetime {lifetime} check {x:02X}{y:02X}\n")
+    let check = e.check;
+    writeln!(
+        f,
+        "  {id} number {number:08X} lifetime {lifetime} check {check}"
+    )
 }

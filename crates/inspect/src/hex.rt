@@ -1,72 +1,58 @@
 // Lines of hexadecimal.
-use std::alloc::{AllocError, Global};
+use std::alloc::{AllocError, AllocFailed, Global};
 
-// What a line holds.
-#[derive(Drop)]
-pub enum Line {
-    // it is blank, or begins with #
-    Nothing,
+// Why a line gives no octets.
+#[derive(Clone, Copy, PartialEq, Eq, Debug)]
+pub enum LineError {
     NoHex,
-    Octets(Vec<u8>),
+    OutOfMemory,
+}
+
+impl From<AllocError> for LineError {
+    fn from(_e: AllocError) -> LineError {
+        LineError::OutOfMemory
+    }
+}
+
+impl<T: Drop> From<AllocFailed<T>> for LineError {
+    fn from(_e: AllocFailed<T>) -> LineError {
+        LineError::OutOfMemory
+    }
 }
 
 // The value of a hexadecimal digit, of either case.
-fn digit(b: u8) -> Option<u8> {
-    match b {
-        b'0'..=b'9' => Some(b - b'0'),
-        b'a'..=b'f' => Some(b - b'a' + 10),
-        b'A'..=b'F' => Some(b - b'A' + 10),
-        _ => None,
-    }
+fn digit(b: u8) -> Result<u8, LineError> {
+    let d = char::from(b).to_digit(16).ok_or(LineError::NoHex)?;
+    Ok((d & 15) as u8)
 }
 
 fn is_space(b: u8) -> bool {
-    b == b' ' || b == b'\t' || b == b'\r'
+    matches!(b, b' ' | b'\t' | b'\r')
 }
 
-// The first octet that is no space.
-fn first_mark(line: &[u8]) -> Option<u8> {
-    for b in line {
-        if !is_space(*b) {
-            return Some(*b);
-        }
+// The octets that a line writes, two digits to each; none where it is blank or begins with #.
+pub fn read_line(heap: Global, line: &[u8]) -> Result<Option<Vec<u8>>, LineError> {
+    match line.iter().find(|b| !is_space(**b)) {
+        None | Some(b'#') => Ok(None),
+        Some(_) => Ok(Some(read_octets(heap, line)?)),
     }
-    None
 }
 
-// The octets that a line writes, two digits to each; none where it is not hexadecimal.
-fn octets_of(heap: Global, line: &[u8]) -> Result<Option<Vec<u8>>, AllocError> {
+fn read_octets(heap: Global, line: &[u8]) -> Result<Vec<u8>, LineError> {
     let mut octets = Vec::new(heap);
-    let mut high: Option<u8> = None;
-    for b in line {
-        if is_space(*b) {
-            continue;
-        }
-        let Some(d) = digit(*b) else {
-            return Ok(None);
-        };
-        match high {
+    let mut high = None;
+    for b in line.iter().filter(|b| !is_space(**b)) {
+        let low = digit(*b)?;
+        high = match high {
+            None => Some(low),
             Some(h) => {
-                octets.push((h & 15) * 16 + (d & 15))?;
-                high = None;
+                octets.push((h & 15) * 16 + (low & 15))?;
+                None
             }
-            None => high = Some(d),
-        }
+        };
     }
     if high.is_some() {
-        return Ok(None);
+        return Err(LineError::NoHex);
     }
-    Ok(Some(octets))
-}
-
-pub fn read_line(heap: Global, line: &[u8]) -> Result<Line, AllocError> {
-    match first_mark(line) {
-        None => return Ok(Line::Nothing),
-        Some(b'#') => return Ok(Line::Nothing),
-        Some(_) => {}
-    }
-    match octets_of(heap, line)? {
-        Some(octets) => Ok(Line::Octets(octets)),
-        None => Ok(Line::NoHex),
-    }
+    Ok(octets)
 }

@@ -34,8 +34,6 @@ fn write_message(m: &Message<'_>, buf: &mut [u8]) -> Result<usize, FrameFault> {
 // Whether the message is written as the very octets of the frame that it was read from.
 pub fn is_written_back(m: &Message<'_>, frame: &[u8]) -> bool {
     let mut buf = [0; 275];
-    match write_message(m, &mut buf) {
-        Ok(n) => n <= 275 && &buf[0..n] == frame,
-        Err(_) => false,
-    }
+    let written = write_message(m, &mut buf);
+    written.is_ok_and(|n| buf.get(..n) == Some(frame))
 }
