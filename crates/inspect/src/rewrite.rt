@@ -6,10 +6,7 @@ use writer::{OpenSummary, write_lsp};
 // A summary that lists these entries.
 fn listing(mut summary: OpenSummary, entries: &Entries<'_>) -> Result<OpenSummary, FrameFault> {
     for e in entries.iter() {
-        summary = match summary.add(e) {
-            Ok(more) => more,
-            Err(refusal) => return Err(refusal.fault),
-        };
+        summary = summary.add(e)?;
     }
     Ok(summary)
 }
@@ -20,10 +17,7 @@ fn write_message(m: &Message<'_>, buf: &mut [u8]) -> Result<usize, FrameFault> {
         Message::Lsp(m) => write_lsp(m, buf),
         Message::Csnp(m) => {
             let summary = listing(OpenSummary::begin(m.source), &m.entries)?;
-            match summary.close_csnp(m.range) {
-                Ok(closed) => closed.write(buf),
-                Err(refusal) => Err(refusal.fault),
-            }
+            summary.close_csnp(m.range)?.write(buf)
         }
         Message::Psnp(m) => listing(OpenSummary::begin(m.source), &m.entries)?
             .close_psnp()

@@ -16,10 +16,7 @@ fn span() -> Result<Fader<Pair<Cable, Segment>>, CallFault> {
     let mut patterns = [0; 12];
     patterns[0] = 0xAAAA_AAAA_AAAA_AAAA;
     patterns[1] = 1;
-    match Pair::new(Cable::new(), segment) {
-        Ok(pair) => Ok(Fader::new(pair, patterns)),
-        Err(back) => Err(back.refusal),
-    }
+    Ok(Fader::new(Pair::new(Cable::new(), segment)?, patterns))
 }
 
 // Prints what an end does with some octets.
@@ -67,42 +64,35 @@ const SEGMENT: Circuit = Circuit(1);
 
 const NOWHERE: Circuit = Circuit(2);
 
-// A frame to put: at which end, its last octet, and whether all the circuit's ends take then.
+// What is done in turn.
 #[derive(Clone, Copy)]
-struct Step {
-    end: End,
-    octet: u8,
-    all_take: bool,
+enum Step {
+    // a frame that ends in this octet is put at an end
+    Put(End, u8),
+    // all ends of a circuit take
+    Drain(Circuit),
 }
 
-impl Step {
-    fn new(end: End, octet: u8, all_take: bool) -> Step {
-        Step {
-            end,
-            octet,
-            all_take,
-        }
-    }
-}
-
-// What is put, in turn.
-fn steps() -> [Step; 7] {
+fn steps() -> [Step; 10] {
     [
-        Step::new(CABLE.end(0), 1, false),
-        Step::new(CABLE.end(0), 2, true),
-        Step::new(CABLE.end(0), 3, false),
-        Step::new(CABLE.end(1), 4, true),
-        Step::new(SEGMENT.end(2), 5, false),
-        Step::new(SEGMENT.end(2), 6, true),
-        Step::new(NOWHERE.end(0), 7, false),
+        Step::Put(CABLE.end(0), 1),
+        Step::Put(CABLE.end(0), 2),
+        Step::Drain(CABLE),
+        Step::Put(CABLE.end(0), 3),
+        Step::Put(CABLE.end(1), 4),
+        Step::Drain(CABLE),
+        Step::Put(SEGMENT.end(2), 5),
+        Step::Put(SEGMENT.end(2), 6),
+        Step::Drain(SEGMENT),
+        Step::Put(NOWHERE.end(0), 7),
     ]
 }
 
 fn run<P: Plant>(rt: &HostRuntime, plant: &mut P) -> io::Result<()> {
     for step in steps() {
-        put(rt, plant, step.end, &[0x83, step.octet])?;
-        if step.all_take {
-            drain(rt, plant, step.end.circuit)?;
+        match step {
+            Step::Put(end, octet) => put(rt, plant, end, &[0x83, octet])?,
+            Step::Drain(circuit) => drain(rt, plant, circuit)?,
         }
     }
     take(rt, plant, SEGMENT.end(3))?;

@@ -1,3 +1,5 @@
+ghost use Rattle.std.specs.Prelude.{◌≡◌};
+
 use fault::CallFault;
 use plant::Circuit;
 
@@ -14,6 +16,14 @@ pub struct Unpaired<P, Q> {
     pub refusal: CallFault,
     pub first: P,
     pub second: Q,
+}
+
+impl<P: Drop, Q: Drop> From<Unpaired<P, Q>> for CallFault {
+    ghost from_gives = { λ back refusal. refusal ≡ back.refusal };
+
+    fn from(back: Unpaired<P, Q>) -> CallFault {
+        back.refusal
+    }
 }
 
 // Where a circuit of a pair is: on the first plant, or on the second under a number of its own.

@@ -36,3 +36,11 @@ pub struct SummaryRefusal {
     pub summary: OpenSummary,
     pub fault: FrameFault,
 }
+
+impl From<SummaryRefusal> for FrameFault {
+    ghost from_gives = { λ refusal fault. fault ≡ refusal.fault };
+
+    fn from(refusal: SummaryRefusal) -> FrameFault {
+        refusal.fault
+    }
+}
