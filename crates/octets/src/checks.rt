@@ -99,7 +99,7 @@ pub fn check_octets(part: &[u8], p: usize) -> Option<CheckOctets>
     Some(computed(part, p))
 }
 
-// The same, of a part that has these places.
+// The same, of a part that has these places. Apart, since answers by hand stand at private functions.
 fn computed(part: &[u8], p: usize) -> CheckOctets
     requires { has_places p part.now ≡ true }
     ensures made { result ≡ check_octets p part.now }
@@ -122,7 +122,7 @@ pub fn is_right(part: &[u8], p: usize) -> bool
     are_right(part, p)
 }
 
-// The same, of a part that has these places.
+// The same, of a part that has these places. Apart, as `computed` is.
 fn are_right(part: &[u8], p: usize) -> bool
     requires { has_places p part.now ≡ true }
     ensures value { result ≡ right p part.now }
@@ -137,8 +137,5 @@ fn are_right(part: &[u8], p: usize) -> bool
 pub fn covered(frame: &[u8]) -> Option<&[u8]>
     ensures { MatchOption result (length frame.now < 12) (λ x. (12 ≤ length frame.now) × (x.now ≡ drop 12 frame.now)) }
 {
-    if frame.len() < 12 {
-        return None;
-    }
-    Some(&frame[12..])
+    frame.get(12..)
 }
