@@ -24,6 +24,7 @@ pub fn is_waiting<P: Plant>(plant: &P, end: End) -> bool
 pub fn is_blocked<P: Plant>(plant: &P, end: End) -> bool
     ensures { result ≡ waits_elsewhere (line (P.air plant.now) end.circuit.0).ends end.number (ends_of (P.air plant.now) end.circuit.0) }
 {
+    // Loops here and below: in a chain of the range a wrong range is refused at the proof file, not at the code.
     for k in 0..count_ends(plant, end.circuit) {
         if k != end.number && is_waiting(plant, end.circuit.end(k)) {
             return true;

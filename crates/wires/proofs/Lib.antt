@@ -1,1 +1,2 @@
 pub mod Inboxes
+pub mod Spread

@@ -1,4 +1,3 @@
 pub mod Held
 pub mod Wires
 pub mod Alone
-pub mod Boxes

@@ -57,6 +57,7 @@ impl<P: Plant> Fader<P> {
     fn fades(&self, circuit: Circuit) -> bool
         ensures { result ≡ fades_next (patterns_of self.now.circuits) (accepted_of self.now.circuits) circuit.0 }
     {
+        // An index: the search does not follow `get` and `is_some_and`.
         circuit.0 < self.circuits.len() && self.circuits[circuit.0].fades()
     }
 
@@ -66,6 +67,7 @@ impl<P: Plant> Fader<P> {
         ensures patterns { patterns_of self.new.circuits ≡ patterns_of self.old.circuits }
         ensures accepted { accepted_of self.new.circuits ≡ next (accepted_of self.old.circuits) circuit.0 }
     {
+        // An index: what `get_mut` lends back has no name that a proof may cite.
         if circuit.0 < self.circuits.len() {
             self.circuits[circuit.0].count();
         }

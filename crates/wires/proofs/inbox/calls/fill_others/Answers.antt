@@ -1,7 +1,7 @@
 use Rattle.std.proofs.Common.{map, set, Some, sym, ap, ◌∙◌}
 use Rattle.std.proofs.lemmas.List.{map-set, set-get_or}
 use Rattle.wires.specs.Held.{held}
-use Rattle.wires.specs.Boxes.{spread_own, spread_more}
+use Rattle.wires.proofs.Spread.{spread_own, spread_more}
 use Rattle.wires.proofs.inbox.calls.fill_others.Goals as goal
 use Rattle.wires.proofs.inbox.calls.fill_others.Goals.{then-k-end, else-k-end}
 

@@ -3,7 +3,7 @@ use Rattle.plant.specs.Air.{ends_of}
 use Rattle.plant.specs.Calls.{none}
 use Rattle.plant.proofs.Blocked.{count_none}
 use Rattle.wires.specs.Wires.{kind_of, wire_air, wire_ends}
-use Rattle.wires.specs.Alone.{alone-spread}
+use Rattle.wires.proofs.Spread.{alone-spread}
 use Rattle.wires.proofs.wire.calls.WirePlant.put.Goals as goal
 
 pub returns-clause-puts : goal.returns-clause-puts
