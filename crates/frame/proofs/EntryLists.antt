@@ -10,7 +10,7 @@ use Rattle.octets.specs.Octets.{Octets, value, octets, part, field}
 use Rattle.octets.proofs.Numbers.{value-octets}
 use Rattle.frame.specs.Messages.{SnpEntry, entry_octets, entries_octets, tail_octets}
 use Rattle.frame.specs.Reading.{check_at, entry_at, entries_at, entries_of, entries_faults, tail_right}
-use Rattle.frame.specs.Meaning.{entries_in}
+use Rattle.frame.specs.Meaning.{entry_count, entries_in}
 use Rattle.frame.specs.Trip.{EntryFits, Rises}
 use Rattle.frame.proofs.Heads.{NoFaults, cell, run, octets-field, field_under, or_false, or_off}
 
@@ -257,22 +257,25 @@ entries_front (suc k) f at m h =
     ap (λ (e : SnpEntry). e ∷ entries_at k (at + 16) (take m f)) (entry_front f at m (omega arith))
     ∙ ap (λ (es : List SnpEntry). entry_at at f ∷ es) (entries_front k f (at + 16) m (omega arith))
 
--- the octets of n entries hold these
-pub entries_cut : (n : ℕ) (f : List ℕ) → 16 * n ≤ length f → entries_at (length (take (16 * n) f) / 16) 0 (take (16 * n) f) ≡ entries_at n 0 f
-entries_cut n f h =
-    let e : length (take (16 * n) f) / 16 ≡ n = omega (arith, length-take (16 * n) f) in
-    ap (λ (k : ℕ). entries_at k 0 (take (16 * n) f)) e ∙ entries_front n f 0 (16 * n) (omega arith)
+-- the octets of the entries hold these
+pub entries_cut : (f : List ℕ) (n : ℕ) → n ≡ entry_count f → entries_at (length (take (16 * n) f) / 16) 0 (take (16 * n) f) ≡ entries_in f
+entries_cut f n h =
+    let l : length (take (16 * n) f) / 16 ≡ n = omega (arith, length-take (16 * n) f) in
+    ap (λ (k : ℕ). entries_at k 0 (take (16 * n) f)) l ∙ entries_front n f 0 (16 * n) (omega arith) ∙ ap (λ (k : ℕ). entries_at k 0 f) h
+
+pub length_entries_in : (f : List ℕ) → length (entries_in f) ≤ 15
+length_entries_in f = omega (arith, length_entries_at (entry_count f) f 0)
 
 -- the first entry and the others
-pub entries_first : (f e rest : List ℕ) → 16 ≤ length f → take 16 f ≡ e → drop 16 f ≡ rest →
-    entries_at (length f / 16) 0 f ≡ entry_at 0 e ∷ entries_at (length rest / 16) 0 rest
-entries_first f e rest h p q =
-    let n = length rest / 16 in
-    let k : length f / 16 ≡ suc n = omega (arith, length-drop 16 f, ap (length {A = ℕ}) q) in
-    let a : entry_at 0 f ≡ entry_at 0 e = sym (entry_front f 0 16 (omega arith)) ∙ ap (entry_at 0) p in
+pub entries_first : (f : List ℕ) → 16 ≤ length f →
+    entries_at (length f / 16) 0 f ≡ entry_at 0 (take 16 f) ∷ entries_at (length (drop 16 f) / 16) 0 (drop 16 f)
+entries_first f h =
+    let n = length (drop 16 f) / 16 in
+    let k : length f / 16 ≡ suc n = omega (arith, length-drop 16 f) in
+    let a : entry_at 0 f ≡ entry_at 0 (take 16 f) = sym (entry_front f 0 16 (omega arith)) in
     ap (λ (k : ℕ). entries_at k 0 f) k
     ∙ ap (λ (x : SnpEntry). x ∷ entries_at n 16 f) a
-    ∙ ap (λ (es : List SnpEntry). entry_at 0 e ∷ es) (entries_shift n f rest 16 0 q)
+    ∙ ap (λ (es : List SnpEntry). entry_at 0 (take 16 f) ∷ es) (entries_shift n f (drop 16 f) 16 0 refl)
 
 -- the k-th entry
 get_from : (n k : ℕ) (f : List ℕ) (at : ℕ) → k < n → slice_get (entries_at n at f) k ≡ Some (entry_at (16 * k + at) f)

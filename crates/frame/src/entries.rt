@@ -37,6 +37,7 @@ impl<'a> Entries<'a> {
     }
 
     // The entries in turn.
+    #[tactic(auto, using(crate::proofs::EntryLists::entries_cut, crate::proofs::EntryLists::length_entries_in))]
     pub fn iter(&self) -> EntryIter<'a>
         ensures these { entries_left result ≡ entries_in self.now.octets.now }
         ensures few { length (entries_left result) ≤ 15 }
@@ -72,6 +73,7 @@ impl<'a> Iterator for EntryIter<'a> {
 
     ghost remaining = { item_count entries_left };
 
+    #[tactic(auto, using(crate::proofs::EntryLists::entries_first, crate::proofs::EntryLists::length_entries_at))]
     fn next(&mut self) -> Option<Entry> {
         let (entry, rest) = self.left.split_first_chunk::<16>()?;
         self.left = rest;
