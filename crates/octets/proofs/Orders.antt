@@ -31,8 +31,8 @@ ranked_onward (x ∷ xs) (y ∷ ys) p e h k = by (nat_cmp x y) (ranks x y) (rank
 
 module _ (a b : List ℕ) (f : (k : ℕ) → get_or a k 0 < 256) (g : (k : ℕ) → get_or b k 0 < 256) (same : length a ≡ length b) where
   -- octets come in the order of the numbers that they write
-  pub ranked : MatchOrdering (slice_cmp nat_cmp a b) (value a < value b) (value a ≡ value b) (value b < value a)
-  ranked = ranked_onward a b 0 same (octets_from a f) (octets_from b g)
+  pub ranked : (r : Ordering) → r ≡ slice_cmp nat_cmp a b → MatchOrdering r (value a < value b) (value a ≡ value b) (value b < value a)
+  ranked r e = rw e (ranked_onward a b 0 same (octets_from a f) (octets_from b g))
 
   pub equal_ids : value a ≡ value b → a ≡ b
   equal_ids e = value_same a b same (octets_from a f) (octets_from b g) e

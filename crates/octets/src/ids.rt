@@ -1,5 +1,5 @@
 // Identifiers, and their order.
-ghost use Rattle.std.specs.Prelude.{◌≡◌, ◌<◌, Decides, nat_lt};
+ghost use Rattle.std.specs.Prelude.{◌≡◌, ◌<◌, Decides, length, nat_lt};
 ghost use Rattle.std.specs.Ordering.{MatchOrdering};
 ghost use Rattle.octets.specs.Octets.{value};
 ghost use Rattle.octets.specs.Ranges.{empty, in_range};
@@ -20,7 +20,16 @@ pub fn order(a: LspId, b: LspId) -> Ordering
     ensures ranked { MatchOrdering result (value a < value b) (value a ≡ value b) (value b < value a) }
     ensures same { value a ≡ value b → a ≡ b }
 {
-    a.cmp(&b)
+    order_of(&a, &b)
+}
+
+// The same of octets, as many of both.
+fn order_of(a: &[u8], b: &[u8]) -> Ordering
+    requires { length a.now ≡ length b.now }
+    ensures ranked { MatchOrdering result (value a.now < value b.now) (value a.now ≡ value b.now) (value b.now < value a.now) }
+    ensures same { value a.now ≡ value b.now → a.now ≡ b.now }
+{
+    a.cmp(b)
 }
 
 // Whether two identifiers are the same.
