@@ -51,7 +51,9 @@ impl fmt::Display for ShownId {
     ghost output = { λ s. Some (id_text s.0) };
 
     fn fmt<W: fmt::Write>(&self, f: &mut fmt::Formatter<W>) -> fmt::Result {
-        let [a, b, c, d, e, g, node, fragment] = self.0.map(ShownOctet);
-        write!(f, "{a}{b}.{c}{d}.{e}{g}.{node}-{fragment}")
+        let [a, b, c, d, e, g, node, fragment] = self.0;
+        let source = ShownSource([a, b, c, d, e, g, node]);
+        let fragment = ShownOctet(fragment);
+        write!(f, "{source}-{fragment}")
     }
 }
