@@ -1,4 +1,5 @@
 pub mod Numbers
 pub mod CheckLaws
 pub mod Orders
+pub mod Shown
 pub mod FieldLaws

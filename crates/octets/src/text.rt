@@ -13,6 +13,7 @@ pub struct ShownOctet(pub u8);
 impl fmt::Display for ShownOctet {
     ghost output = { λ n. Some (octet_text n.0) };
 
+    #[tactic(auto, using(crate::proofs::Shown::octet_shown))]
     fn fmt<W: fmt::Write>(&self, f: &mut fmt::Formatter<W>) -> fmt::Result {
         let octet = self.0;
         write!(f, "{octet:02X}")
