@@ -1,7 +1,8 @@
 pub mod Bits
 pub mod Ports
-pub mod Fields
 pub mod Bodies
+pub mod States
+pub mod Fields
 pub mod Forms
 pub mod Order
 pub mod Flags

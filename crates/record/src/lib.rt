@@ -11,6 +11,7 @@ mod port;
 mod ports;
 mod reads;
 mod record;
+mod state;
 
 pub use body::Body;
 pub use form::{Form, Recency};
