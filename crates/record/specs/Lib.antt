@@ -7,3 +7,4 @@ pub mod Forms
 pub mod Order
 pub mod Flags
 pub mod Saying
+pub mod Texts

@@ -12,6 +12,7 @@ mod ports;
 mod reads;
 mod record;
 mod state;
+mod text;
 
 pub use body::Body;
 pub use form::{Form, Recency};

@@ -13,8 +13,6 @@ use frame::Lsp;
 use octets::{CheckOctets, LspId};
 use writer::computed_check;
 
-const NO_CHECK: CheckOctets = CheckOctets { x: 0, y: 0 };
-
 // The record of a state, without flags.
 fn unflagged(id: LspId, state: State) -> Record
     requires numbered { number_in state < 256 ^ 4 }
@@ -64,7 +62,7 @@ impl Record {
             lifetime: 1200,
             id,
             number,
-            check: NO_CHECK,
+            check: CheckOctets::default(),
             flags: 1,
             body: body.as_slice(),
         };

@@ -37,7 +37,7 @@ impl Record {
     {
         match self.state {
             State::Live { check, .. } => check,
-            State::Purge { .. } | State::Placeholder { .. } => CheckOctets { x: 0, y: 0 },
+            State::Purge { .. } | State::Placeholder { .. } => CheckOctets::default(),
         }
     }
 
