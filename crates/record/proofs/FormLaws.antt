@@ -125,8 +125,7 @@ module _ (x : Record) where
       let a = and_parts _ _ h in
       (rw e (leb-true 1 n a.0), record { lifetime = rw e refl; check = rw e refl; body = rw e refl; wait = rw e (waiting w a.1) })
   form_is (placeholder w) e h q =
-      let z = eqb-true x.srm.bits 0 q in
-      (
+      let z = eqb-true x.srm.bits 0 q in (
         rw e refl,
         rw e refl,
         record { lifetime = rw e refl; check = rw e refl; body = rw e refl; wait = rw e (waiting w h) },

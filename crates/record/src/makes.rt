@@ -80,15 +80,16 @@ impl Record {
     pub fn purge(id: LspId, number: u32, flags: u8) -> Option<Record>
         ensures { MatchOption result (number ≡ 0) (λ x. (1 ≤ number) × Emptied id number flags x) }
     {
-        if number == 0 {
-            return None;
+        if number > 0 {
+            let state = State::Purge {
+                number,
+                flags,
+                wait: 60,
+            };
+            Some(unflagged(id, state))
+        } else {
+            None
         }
-        let state = State::Purge {
-            number,
-            flags,
-            wait: 60,
-        };
-        Some(unflagged(id, state))
     }
 
     // A placeholder; it waits 60.
