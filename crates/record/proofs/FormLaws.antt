@@ -1,12 +1,10 @@
 -- Every record has one of the three forms.
-use Rattle.std.proofs.Common.{◌≡◌, ℕ, ◌≤◌, Bool, true, false, not, ◌&&◌, ◌||◌, eqb, leb, ◌⊎◌, List, length, length-take, is_some, Some, None, Option, sym, refl, ap, ◌∙◌, subst, inl, inr, arith, lit<}
-use Rattle.std.proofs.lemmas.Bool.{cases_lt, and_parts, and_from, or_cases, or_left, or_right, leb-true, le-leb, lt-leb, eqb-true, eqb-false, eq-eqb, cond-true, cond-false, true≢false}
-use Rattle.std.proofs.lemmas.List.{nil_from_length}
+use Rattle.std.proofs.Common.{◌≡◌, ℕ, ◌≤◌, true, false, not, eqb, leb, List, length, length-take, is_some, Some, None, Option, sym, refl, ap, ◌∙◌, inl, inr, arith, lit<}
+use Rattle.std.proofs.lemmas.Bool.{cases_lt, and_parts, and_from, or_cases, or_left, or_right, leb-true, le-leb, eqb-true, eq-eqb, cond-true, true≢false}
 use Rattle.fault.specs.declared.FrameFault.{FrameFault}
 use Rattle.octets.specs.Checks.{right}
 use Rattle.octets.specs.Fields.{Whole, broken_field, body_fault}
 use Rattle.octets.proofs.FieldLaws.{none_whole, whole_none, body_long}
-use Rattle.octets.proofs.CheckLaws.{same_check}
 use Rattle.frame.specs.Messages.{LspPdu, covered_part}
 use Rattle.frame.specs.Trip.{LspFits}
 use Rattle.record.specs.declared.body.Body.{Body}
@@ -16,11 +14,11 @@ use Rattle.record.specs.declared.record.Record.{Record}
 use Rattle.record.specs.declared.state.State.{State}
 use Rattle.record.specs.declared.state.State.TheVariants.{Live as live, Purge as purge, Placeholder as placeholder}
 use Rattle.record.specs.Fields.{whole_fields}
-use Rattle.record.specs.States.{no_check, number_in, lifetime_in, check_in, flags_in, body_in, wait_in, live_form, waits, formed, may_be_sent, quiet}
+use Rattle.record.specs.States.{number_in, lifetime_in, check_in, flags_in, body_in, live_form, waits, formed, may_be_sent, quiet}
 use Rattle.record.specs.Bodies.{body_octets, pdu}
 use Rattle.record.specs.Bits.{bit}
 use Rattle.record.specs.Ports.{has_port}
-use Rattle.record.specs.Forms.{number_of, lifetime_of, record_said, form_in, form_of, form_by, Bare, HasForm, WellFormed}
+use Rattle.record.specs.Forms.{number_of, record_said, form_in, form_by, HasForm, WellFormed}
 use Rattle.record.proofs.Masks.{bit_zero, bits_same}
 
 none_left : {F : Type 0} (o : Option F) → not (is_some o) ≡ true → o ≡ None
@@ -90,9 +88,6 @@ waiting w h = let a = and_parts _ _ h in (leb-true 1 w a.0, leb-true w 60 a.1)
 pub waits_sixty : waits 60 ≡ true
 unfolding waits
 waits_sixty = refl
-
-pub purge_formed : (n f : ℕ) (id : List ℕ) → 1 ≤ n → formed id (purge n f 60) ≡ true
-purge_formed n f id h = and_from _ _ (le-leb 1 n h) waits_sixty
 
 -- what holds of every state
 pub live_lasts : (id : List ℕ) (s : State) → formed id s ≡ true → form_in s ≡ Live → 1 ≤ lifetime_in s

@@ -27,6 +27,8 @@ impl Record {
         }
     }
 
+    // Whether it is live.
+    #[tactic(auto, using(crate::proofs::FormLaws::live_lasts))]
     fn is_live(&self) -> bool
         ensures { result ≡ is_live self.now }
     {

@@ -77,6 +77,7 @@ impl Record {
     }
 
     // The purge of a number, unless that is 0; it waits 60.
+    #[tactic(auto, using(crate::proofs::FormLaws::waits_sixty))]
     pub fn purge(id: LspId, number: u32, flags: u8) -> Option<Record>
         ensures { MatchOption result (number ≡ 0) (λ x. (1 ≤ number) × Emptied id number flags x) }
     {
@@ -93,6 +94,7 @@ impl Record {
     }
 
     // A placeholder; it waits 60.
+    #[tactic(auto, using(crate::proofs::FormLaws::waits_sixty))]
     pub fn placeholder(id: LspId) -> Record
         ensures { Emptied id 0 0 result }
     {
