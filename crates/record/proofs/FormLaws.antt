@@ -95,10 +95,15 @@ live_lasts id (live n l c f b) h e = (lives _ h).lifetime
 live_lasts id (purge n f w) h e = cc
 live_lasts id (placeholder w) h e = cc
 
-pub told_by : (id : List ℕ) (s : State) → formed id s ≡ true → form_in s ≡ form_by (number_in s) (lifetime_in s)
+told_by : (id : List ℕ) (s : State) → formed id s ≡ true → form_in s ≡ form_by (number_in s) (lifetime_in s)
 told_by id (live n l c f b) h = sym (cond-true (leb 1 l) Live _ (le-leb 1 l (lives _ h).lifetime))
 told_by id (purge n f w) h = sym (cond-true (leb 1 n) Purge Placeholder (and_parts _ _ h).0)
 told_by id (placeholder w) h = refl
+
+sent_by : (id : List ℕ) (s : State) → formed id s ≡ true → may_be_sent s ≡ leb 1 (number_in s)
+sent_by id (live n l c f b) h = sym (le-leb 1 n (lives _ h).number)
+sent_by id (purge n f w) h = sym (and_parts _ _ h).0
+sent_by id (placeholder w) h = refl
 
 short_in : (id : List ℕ) (s : State) → formed id s ≡ true → lifetime_in s ≤ 1200
 short_in id (live n l c f b) h = (lives _ h).short
@@ -144,6 +149,7 @@ module _ (x : Record) where
       record {
         form = form_is x.state refl x.form x.unsent;
         told = told_by x.id x.state x.form;
+        sent = sent_by x.id x.state x.form;
         whole = fields_whole (body_octets (body_in x.state)) (body_in x.state).fields;
         short = octets_short (body_in x.state);
         fits = record_fits;

@@ -15,6 +15,7 @@ use Rattle.record.specs.Bodies.{body_octets, pdu}
 pub use Rattle.record.specs.States.{no_check}
 use Rattle.record.specs.States.{number_in, lifetime_in, check_in, flags_in, body_in, wait_in}
 use Rattle.record.specs.Ports.{has_port}
+use Rattle.record.specs.Flags.{may_send}
 
 -- what a record holds
 abbrev pub number_of : Record → ℕ
@@ -74,11 +75,12 @@ HasForm Live x =
 HasForm Purge x = (1 ≤ number_of x) × Bare x
 HasForm Placeholder x = (number_of x ≡ 0) × (flags_of x ≡ 0) × Bare x × ((k : ℕ) → has_port x.srm k ≡ false)
 
--- what holds of every record: its form, which its number and its lifetime alone tell, a body of whole fields,
--- and that all but placeholders can be said as LSPs
+-- what holds of every record: its form, which its number and its lifetime alone tell, that it may be sent where it has a number,
+-- a body of whole fields, and that all but placeholders can be said as LSPs
 pub record WellFormed (x : Record) : Type 0 where
   pub form : HasForm (form_of x) x
   pub told : form_of x ≡ form_by (number_of x) (lifetime_of x)
+  pub sent : may_send x ≡ nat_le 1 (number_of x)
   pub whole : Whole (body_octets (body_of x))
   pub short : length (body_octets (body_of x)) ≤ 100
   pub fits : 1 ≤ number_of x → LspFits (record_said x)

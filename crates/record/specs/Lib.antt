@@ -3,8 +3,8 @@ pub mod Ports
 pub mod Bodies
 pub mod States
 pub mod Fields
+pub mod Flags
 pub mod Forms
 pub mod Order
-pub mod Flags
 pub mod Saying
 pub mod Texts
