@@ -1,24 +1,24 @@
 -- Every record has one of the three forms.
-use Rattle.std.proofs.Common.{◌≡◌, ℕ, ◌≤◌, Bool, true, false, not, ◌||◌, eqb, leb, ◌⊎◌, List, length, length-take, is_some, Some, None, Option, sym, refl, ap, ◌∙◌, subst, inl, inr, arith, lit<}
-use Rattle.std.proofs.lemmas.Bool.{cases_lt, and_parts, and_from, or_cases, or_left, or_right, leb-true, le-leb, lt-leb, eqb-true, eqb-false, eq-eqb, cond-true, cond-false, true≢false}
-use Rattle.std.proofs.lemmas.List.{nil_from_length}
+use Rattle.std.proofs.Common.{◌≡◌, ℕ, ◌≤◌, true, false, not, eqb, leb, List, length, length-take, is_some, Some, None, Option, sym, refl, ap, ◌∙◌, inl, inr, arith, lit<}
+use Rattle.std.proofs.lemmas.Bool.{cases_lt, and_parts, and_from, or_cases, or_left, or_right, leb-true, le-leb, eqb-true, eq-eqb, cond-true, true≢false}
 use Rattle.fault.specs.declared.FrameFault.{FrameFault}
 use Rattle.octets.specs.Checks.{right}
 use Rattle.octets.specs.Fields.{Whole, broken_field, body_fault}
 use Rattle.octets.proofs.FieldLaws.{none_whole, whole_none, body_long}
-use Rattle.octets.proofs.CheckLaws.{same_check}
 use Rattle.frame.specs.Messages.{LspPdu, covered_part}
 use Rattle.frame.specs.Trip.{LspFits}
 use Rattle.record.specs.declared.body.Body.{Body}
-use Rattle.record.specs.declared.form.Form.{Form}
 use Rattle.record.specs.declared.form.Form.TheVariants.{Live, Purge, Placeholder}
 use Rattle.record.specs.declared.port.Ports.{Ports}
 use Rattle.record.specs.declared.record.Record.{Record}
-use Rattle.record.specs.Fields.{whole_fields, live_form, bare, purge_form, placeholder_form, formed, quiet}
-use Rattle.record.specs.Bodies.{body_octets}
+use Rattle.record.specs.declared.state.State.{State}
+use Rattle.record.specs.declared.state.State.TheVariants.{Live as live, Purge as purge, Placeholder as placeholder}
+use Rattle.record.specs.Fields.{whole_fields}
+use Rattle.record.specs.States.{number_in, lifetime_in, check_in, flags_in, body_in, live_form, waits, formed, may_be_sent, quiet}
+use Rattle.record.specs.Bodies.{body_octets, pdu}
 use Rattle.record.specs.Bits.{bit}
 use Rattle.record.specs.Ports.{has_port}
-use Rattle.record.specs.Forms.{no_check, record_said, form_of, Bare, HasForm, WellFormed}
+use Rattle.record.specs.Forms.{number_of, record_said, form_in, form_by, HasForm, WellFormed}
 use Rattle.record.proofs.Masks.{bit_zero, bits_same}
 
 none_left : {F : Type 0} (o : Option F) → not (is_some o) ≡ true → o ≡ None
@@ -40,175 +40,117 @@ fault_short at b h =
       | inr l ↦ l
     ]
 
--- a set that has no port is quiet at any number
+-- a set that has no port is quiet in any state
 none_has : (a : Ports) → ((k : ℕ) → has_port a k ≡ false) → eqb a.bits 0 ≡ true
 none_has a f = eq-eqb a.bits 0 (bits_same a.bits 0 a.few (lit< tt) (λ k l. f k ∙ sym (bit_zero k)))
 
-pub quiet_none : (n : ℕ) (a : Ports) → ((k : ℕ) → has_port a k ≡ false) → quiet n a ≡ true
-quiet_none n a f = or_right (leb 1 n) (eqb a.bits 0) (none_has a f)
+pub quiet_none : (s : State) (a : Ports) → ((k : ℕ) → has_port a k ≡ false) → quiet s a ≡ true
+quiet_none s a f = or_right (may_be_sent s) (eqb a.bits 0) (none_has a f)
 
 -- and so is a set that has no port which a quiet one has not
-pub quiet_fewer : (n : ℕ) (a r : Ports) → ((k : ℕ) → has_port a k ≡ false → has_port r k ≡ false) → quiet n a ≡ true → quiet n r ≡ true
-quiet_fewer n a r f q =
-    elim (or_cases (leb 1 n) (eqb a.bits 0) q) [
-      | inl l ↦ or_left (leb 1 n) (eqb r.bits 0) l
+pub quiet_fewer : (s : State) (a r : Ports) → ((k : ℕ) → has_port a k ≡ false → has_port r k ≡ false) → quiet s a ≡ true → quiet s r ≡ true
+quiet_fewer s a r f q =
+    elim (or_cases (may_be_sent s) (eqb a.bits 0) q) [
+      | inl l ↦ or_left (may_be_sent s) (eqb r.bits 0) l
       | inr z ↦
-          or_right (leb 1 n) (eqb r.bits 0)
-          (none_has r (λ k. f k (ap (λ (s : ℕ). bit s k) (eqb-true a.bits 0 z) ∙ bit_zero k)))
+          or_right (may_be_sent s) (eqb r.bits 0)
+          (none_has r (λ k. f k (ap (λ (b : ℕ). bit b k) (eqb-true a.bits 0 z) ∙ bit_zero k)))
     ]
 
 pub octets_short : (b : Body) → length (body_octets b) ≤ 100
 octets_short b = omega (arith, length-take b.len b.octets, b.few)
 
--- the parts of the forms
-pub record Lives (m : LspPdu) (w : ℕ) : Type 0 where
+-- the parts of the live form
+pub record Lives (m : LspPdu) : Type 0 where
   pub number : 1 ≤ m.number
   pub lifetime : 1 ≤ m.lifetime
   pub short : m.lifetime ≤ 1200
-  pub wait : w ≡ 0
   pub sums : right 13 (covered_part m) ≡ true
 
-pub record Bares (m : LspPdu) (w : ℕ) : Type 0 where
-  pub lifetime : m.lifetime ≡ 0
-  pub x : m.check.x ≡ 0
-  pub y : m.check.y ≡ 0
-  pub body : length m.body ≡ 0
-  pub wait : (1 ≤ w) × (w ≤ 60)
-
-lives : (m : LspPdu) (w : ℕ) → live_form m w ≡ true → Lives m w
+lives : (m : LspPdu) → live_form m ≡ true → Lives m
 unfolding live_form
-lives m w h =
+lives m h =
     let a = and_parts _ _ h in
     let b = and_parts _ _ a.1 in
     let c = and_parts _ _ b.1 in
-    let d = and_parts _ _ c.1 in
-    record { number = leb-true 1 _ a.0; lifetime = leb-true 1 _ b.0; short = leb-true _ 1200 c.0; wait = eqb-true w 0 d.0; sums = d.1 }
+    record { number = leb-true 1 _ a.0; lifetime = leb-true 1 _ b.0; short = leb-true _ 1200 c.0; sums = c.1 }
 
-lived : (m : LspPdu) (w : ℕ) → Lives m w → live_form m w ≡ true
+pub lived : (m : LspPdu) → Lives m → live_form m ≡ true
 unfolding live_form
-lived m w h =
+lived m h =
     and_from _ _ (le-leb 1 m.number h.number)
-    (and_from _ _ (le-leb 1 m.lifetime h.lifetime)
-    (and_from _ _ (le-leb m.lifetime 1200 h.short) (and_from _ _ (eq-eqb w 0 h.wait) h.sums)))
+    (and_from _ _ (le-leb 1 m.lifetime h.lifetime) (and_from _ _ (le-leb m.lifetime 1200 h.short) h.sums))
 
-bares : (m : LspPdu) (w : ℕ) → bare m w ≡ true → Bares m w
-unfolding bare
-bares m w h =
-    let a = and_parts _ _ h in
-    let b = and_parts _ _ a.1 in
-    let c = and_parts _ _ b.1 in
-    let d = and_parts _ _ c.1 in
-    let e = and_parts _ _ d.1 in
-    record {
-      lifetime = eqb-true _ 0 a.0;
-      x = eqb-true _ 0 b.0;
-      y = eqb-true _ 0 c.0;
-      body = eqb-true _ 0 d.0;
-      wait = (leb-true 1 w e.0, leb-true w 60 e.1);
-    }
+waiting : (w : ℕ) → waits w ≡ true → (1 ≤ w) × (w ≤ 60)
+unfolding waits
+waiting w h = let a = and_parts _ _ h in (leb-true 1 w a.0, leb-true w 60 a.1)
 
-bared : (m : LspPdu) (w : ℕ) → Bares m w → bare m w ≡ true
-unfolding bare
-bared m w h =
-    and_from _ _ (eq-eqb m.lifetime 0 h.lifetime)
-    (and_from _ _ (eq-eqb m.check.x 0 h.x)
-    (and_from _ _ (eq-eqb m.check.y 0 h.y)
-    (and_from _ _ (eq-eqb (length m.body) 0 h.body) (and_from _ _ (le-leb 1 w h.wait.0) (le-leb w 60 h.wait.1)))))
+pub waits_sixty : waits 60 ≡ true
+unfolding waits
+waits_sixty = refl
 
--- the forms of what is said
-pub live_formed : (m : LspPdu) (w : ℕ) → Lives m w → formed m w ≡ true
-unfolding formed
-live_formed m w h = or_left (live_form m w) (purge_form m w || placeholder_form m w) (lived m w h)
+-- what holds of every state
+pub live_lasts : (id : List ℕ) (s : State) → formed id s ≡ true → form_in s ≡ Live → 1 ≤ lifetime_in s
+live_lasts id (live n l c f b) h e = (lives _ h).lifetime
+live_lasts id (purge n f w) h e = cc
+live_lasts id (placeholder w) h e = cc
 
-pub bare-formed : (m : LspPdu) (w : ℕ) → Bares m w → (m.number ≡ 0 → m.flags ≡ 0) → formed m w ≡ true
-unfolding formed purge_form placeholder_form
-bare-formed m w h f = or_right (live_form m w) (purge_form m w || placeholder_form m w) (go (eqb m.number 0) refl)
-  where
-    go : (z : Bool) → eqb m.number 0 ≡ z → (purge_form m w || placeholder_form m w) ≡ true
-    go true e =
-        let n = eqb-true m.number 0 e in
-        or_right (purge_form m w) (placeholder_form m w) (and_from _ _ e (and_from _ _ (eq-eqb m.flags 0 (f n)) (bared m w h)))
-    go false e =
-        let n : 1 ≤ m.number = omega (arith, eqb-false m.number 0 e) in
-        or_left (purge_form m w) (placeholder_form m w) (and_from _ _ (le-leb 1 m.number n) (bared m w h))
+told_by : (id : List ℕ) (s : State) → formed id s ≡ true → form_in s ≡ form_by (number_in s) (lifetime_in s)
+told_by id (live n l c f b) h = sym (cond-true (leb 1 l) Live _ (le-leb 1 l (lives _ h).lifetime))
+told_by id (purge n f w) h = sym (cond-true (leb 1 n) Purge Placeholder (and_parts _ _ h).0)
+told_by id (placeholder w) h = refl
 
--- which of the three
-pub data Which (m : LspPdu) (w : ℕ) : Type 0 where
-  alive : Lives m w → Which m w
-  purged : 1 ≤ m.number → Bares m w → Which m w
-  unheld : m.number ≡ 0 → m.flags ≡ 0 → Bares m w → Which m w
+sent_by : (id : List ℕ) (s : State) → formed id s ≡ true → may_be_sent s ≡ leb 1 (number_in s)
+sent_by id (live n l c f b) h = sym (le-leb 1 n (lives _ h).number)
+sent_by id (purge n f w) h = sym (and_parts _ _ h).0
+sent_by id (placeholder w) h = refl
 
-pub which : (m : LspPdu) (w : ℕ) → formed m w ≡ true → Which m w
-unfolding formed purge_form placeholder_form
-which m w h = elim (or_cases (live_form m w) (purge_form m w || placeholder_form m w) h) [ inl a ↦ alive (lives m w a) | inr b ↦ rest (or_cases (purge_form m w) (placeholder_form m w) b) ]
-  where
-    rest : (purge_form m w ≡ true) ⊎ (placeholder_form m w ≡ true) → Which m w
-    rest (inl a) = let p = and_parts _ _ a in purged (leb-true 1 _ p.0) (bares m w p.1)
-    rest (inr a) = let p = and_parts _ _ a in let q = and_parts _ _ p.1 in unheld (eqb-true _ 0 p.0) (eqb-true _ 0 q.0) (bares m w q.1)
+short_in : (id : List ℕ) (s : State) → formed id s ≡ true → lifetime_in s ≤ 1200
+short_in id (live n l c f b) h = (lives _ h).short
+short_in id (purge n f w) h = omega arith
+short_in id (placeholder w) h = omega arith
+
+sums_in :
+    (id : List ℕ) (s : State) → formed id s ≡ true → 1 ≤ lifetime_in s →
+    right 13 (covered_part (pdu id (number_in s) (lifetime_in s) (check_in s) (flags_in s) (body_in s))) ≡ true
+sums_in id (live n l c f b) h p = (lives _ h).sums
+sums_in id (purge n f w) h p = absurd (omega arith)
+sums_in id (placeholder w) h p = absurd (omega arith)
 
 -- what holds of every record
 module _ (x : Record) where
-  bare_record : Bares (record_said x) x.wait → Bare x
-  bare_record h =
-      record {
-        lifetime = h.lifetime;
-        check = same_check x.check no_check h.x h.y;
-        body = nil_from_length (body_octets x.body) h.body;
-        wait = h.wait;
-      }
+  form_is : (s : State) → x.state ≡ s → formed x.id s ≡ true → quiet s x.srm ≡ true → HasForm (form_in s) x
+  form_is (live n l c f b) e h q = let a = lives _ h in rw e (a.number, a.lifetime, a.short, refl, a.sums)
+  form_is (purge n f w) e h q =
+      let a = and_parts _ _ h in
+      (rw e (leb-true 1 n a.0), record { lifetime = rw e refl; check = rw e refl; body = rw e refl; wait = rw e (waiting w a.1) })
+  form_is (placeholder w) e h q =
+      let z = eqb-true x.srm.bits 0 q in (
+        rw e refl,
+        rw e refl,
+        record { lifetime = rw e refl; check = rw e refl; body = rw e refl; wait = rw e (waiting w h) },
+        λ k. ap (λ (b : ℕ). bit b k) z ∙ bit_zero k,
+      )
 
-  silent : x.number ≡ 0 → x.srm.bits ≡ 0
-  silent e =
-      elim (or_cases (leb 1 x.number) (eqb x.srm.bits 0) x.unsent) [
-        | inl a ↦ (let n = leb-true 1 x.number a in absurd (omega arith))
-        | inr b ↦ eqb-true x.srm.bits 0 b
-      ]
-
-  form_is : Which (record_said x) x.wait → HasForm (form_of x) x
-  form_is (alive h) =
-      let e : form_of x ≡ Live = cond-true (leb 1 x.lifetime) Live _ (le-leb 1 x.lifetime h.lifetime) in
-      subst (λ (f : Form). HasForm f x) (sym e) (h.number, h.lifetime, h.short, h.wait, h.sums)
-  form_is (purged n h) =
-      let z : x.lifetime ≡ 0 = h.lifetime in
-      let e : form_of x ≡ Purge =
-      cond-false (leb 1 x.lifetime) Live _ (lt-leb 1 x.lifetime (omega arith)) ∙ cond-true (leb 1 x.number) Purge Placeholder (le-leb 1 x.number n)
-      in
-      subst (λ (f : Form). HasForm f x) (sym e) (n, bare_record h)
-  form_is (unheld n f h) =
-      let z : x.lifetime ≡ 0 = h.lifetime in
-      let e : form_of x ≡ Placeholder =
-      cond-false (leb 1 x.lifetime) Live _ (lt-leb 1 x.lifetime (omega arith)) ∙ cond-false (leb 1 x.number) Purge Placeholder (lt-leb 1 x.number (omega arith))
-      in
-      subst (λ (f : Form). HasForm f x) (sym e) (n, f, bare_record h, λ k. ap (λ (s : ℕ). bit s k) (silent n) ∙ bit_zero k)
-
-  sums_of_form : Which (record_said x) x.wait → 1 ≤ x.lifetime → right 13 (covered_part (record_said x)) ≡ true
-  sums_of_form (alive h) l = h.sums
-  sums_of_form (purged n h) l = let z : x.lifetime ≡ 0 = h.lifetime in absurd (omega arith)
-  sums_of_form (unheld n f h) l = let z : x.lifetime ≡ 0 = h.lifetime in absurd (omega arith)
-
-  short_of_form : Which (record_said x) x.wait → x.lifetime ≤ 1200
-  short_of_form (alive h) = h.short
-  short_of_form (purged n h) = let z : x.lifetime ≡ 0 = h.lifetime in omega arith
-  short_of_form (unheld n f h) = let z : x.lifetime ≡ 0 = h.lifetime in omega arith
-
-  pub record_fits : 1 ≤ x.number → LspFits (record_said x)
+  pub record_fits : 1 ≤ number_of x → LspFits (record_said x)
   record_fits n =
-      let w = which (record_said x) x.wait x.form in
       record {
-        lifetime = short_of_form w;
+        lifetime = short_in x.id x.state x.form;
         id = x.sized;
         number = x.numbered;
         issued = n;
-        body = octets_short x.body;
-        fields = fields_whole (body_octets x.body) x.body.fields;
-        sums = sums_of_form w;
+        body = octets_short (body_in x.state);
+        fields = fields_whole (body_octets (body_in x.state)) (body_in x.state).fields;
+        sums = sums_in x.id x.state x.form;
       }
 
   pub well_formed : WellFormed x
   well_formed =
       record {
-        form = form_is (which (record_said x) x.wait x.form);
-        whole = fields_whole (body_octets x.body) x.body.fields;
-        short = octets_short x.body;
+        form = form_is x.state refl x.form x.unsent;
+        told = told_by x.id x.state x.form;
+        sent = sent_by x.id x.state x.form;
+        whole = fields_whole (body_octets (body_in x.state)) (body_in x.state).fields;
+        short = octets_short (body_in x.state);
         fits = record_fits;
       }

@@ -1,6 +1,7 @@
 -- The flags of a record: SRM and SSN, one bit of each for every port.
-use Rattle.std.specs.Prelude.{◌≡◌, ℕ, Bool, not, ◌&&◌, ◌||◌, nat_le}
+use Rattle.std.specs.Prelude.{◌≡◌, ℕ, Bool, not, ◌&&◌, ◌||◌}
 use Rattle.record.specs.declared.record.Record.{Record}
+use Rattle.record.specs.States.{may_be_sent}
 use Rattle.record.specs.Ports.{has_port}
 
 -- whether the record is to be sent, and to be reported, on a port
@@ -12,17 +13,12 @@ ssn_at x k = has_port x.ssn k
 
 -- a placeholder is never to be sent
 abbrev pub may_send : Record → Bool
-may_send x = nat_le 1 x.number
+may_send x = may_be_sent x.state
 
 -- everything but the flags is as it was
 pub record Kept (x y : Record) : Type 0 where
   pub id : y.id ≡ x.id
-  pub number : y.number ≡ x.number
-  pub lifetime : y.lifetime ≡ x.lifetime
-  pub check : y.check ≡ x.check
-  pub flags : y.flags ≡ x.flags
-  pub body : y.body ≡ x.body
-  pub wait : y.wait ≡ x.wait
+  pub state : y.state ≡ x.state
 
 -- the record x with these ports for its flags
 pub record Marked (x y : Record) (sent reported : ℕ → Bool) : Type 0 where

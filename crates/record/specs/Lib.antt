@@ -1,8 +1,10 @@
 pub mod Bits
 pub mod Ports
-pub mod Fields
 pub mod Bodies
+pub mod States
+pub mod Fields
+pub mod Flags
 pub mod Forms
 pub mod Order
-pub mod Flags
 pub mod Saying
+pub mod Texts

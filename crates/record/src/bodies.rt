@@ -1,7 +1,7 @@
 // Bodies, made and read.
-ghost use Rattle.std.specs.Prelude.{◌≡◌, ◌≤◌, [], length, Some, None, MatchResult};
+ghost use Rattle.std.specs.Prelude.{◌≡◌, ◌≤◌, ◌++◌, length, drop, replicate, Some, None, MatchResult};
 ghost use Rattle.octets.specs.Fields.{Whole, body_fault};
-ghost use Rattle.record.specs.Bodies.{body_octets};
+ghost use Rattle.record.specs.Bodies.{body_octets, empty_body};
 
 use crate::body::Body;
 use fault::FrameFault;
@@ -10,7 +10,9 @@ use octets::check_body;
 // The body of octets that are whole fields.
 fn whole_body(octets: &[u8]) -> Body
     requires { body_fault 0 octets.now ≡ None }
-    ensures { body_octets result ≡ octets.now }
+    ensures is { body_octets result ≡ octets.now }
+    ensures rest { result.octets ≡ octets.now ++ drop (length octets.now) (replicate 100 0) }
+    ensures len { result.len ≡ length octets.now }
 {
     let mut held = [0; 100];
     held[..octets.len()].copy_from_slice(octets);
@@ -31,7 +33,7 @@ impl Body {
 
     // The body of no octets.
     pub fn empty() -> Body
-        ensures { body_octets result ≡ [] }
+        ensures { result ≡ empty_body }
     {
         whole_body(&[])
     }

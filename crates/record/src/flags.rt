@@ -5,6 +5,7 @@ ghost use Rattle.record.specs.Flags.{srm_at, ssn_at, SetsSrm, ClearsSrm, SetsSsn
 
 use crate::port::{Port, Ports};
 use crate::record::Record;
+use crate::state::State;
 
 impl Record {
     // Whether it is to be sent on a port.
@@ -25,9 +26,10 @@ impl Record {
     pub fn set_srm_on(&mut self, ports: Ports)
         ensures { SetsSrm self.old self.new (λ k. has_port ports k) }
     {
-        if self.number > 0 {
-            self.srm = self.srm | ports;
+        if let State::Placeholder { .. } = self.state {
+            return;
         }
+        self.srm = self.srm | ports;
     }
 
     // Sets SRM on a port; a placeholder stays as it is.

@@ -11,6 +11,8 @@ mod port;
 mod ports;
 mod reads;
 mod record;
+mod state;
+mod text;
 
 pub use body::Body;
 pub use form::{Form, Recency};

@@ -1,57 +1,32 @@
 // Records as they are made.
-ghost use Rattle.std.specs.Prelude.{◌≡◌, ◌≤◌, true, MatchOption, replicate};
+ghost use Rattle.std.specs.Prelude.{◌≡◌, ◌^◌, ◌<◌, ◌≤◌, true, MatchOption, replicate};
 ghost use Rattle.frame.specs.Meaning.{lsp_said};
 ghost use Rattle.frame.specs.Trip.{LspFits};
-ghost use Rattle.record.specs.Fields.{formed};
-ghost use Rattle.record.specs.Bodies.{body_octets};
-ghost use Rattle.record.specs.Forms.{record_said, Unflagged, Made, Emptied, issued};
+ghost use Rattle.record.specs.States.{number_in, formed};
+ghost use Rattle.record.specs.Forms.{Unflagged, Made, Emptied, issued};
 
 use crate::body::Body;
 use crate::port::Ports;
 use crate::record::Record;
+use crate::state::State;
 use frame::Lsp;
 use octets::{CheckOctets, LspId};
 use writer::computed_check;
 
-const NO_CHECK: CheckOctets = CheckOctets { x: 0, y: 0 };
-
-// The record that says an LSP, with its body as a record holds it, and without flags.
-fn unflagged(m: &Lsp<'_>, body: Body, wait: u8) -> Record
-    requires body { body_octets body ≡ m.now.body.now }
-    requires form { formed (lsp_said m.now) wait ≡ true }
-    ensures said { record_said result ≡ lsp_said m.now }
-    ensures id { result.id ≡ m.now.id }
-    ensures check { result.check ≡ m.now.check }
-    ensures wait { result.wait ≡ wait }
+// The record of a state, without flags.
+fn unflagged(id: LspId, state: State) -> Record
+    requires numbered { number_in state < 256 ^ 4 }
+    requires form { formed id state ≡ true }
+    ensures id { result.id ≡ id }
+    ensures state { result.state ≡ state }
     ensures none { Unflagged result }
 {
     Record {
-        id: m.id,
-        number: m.number,
-        lifetime: m.lifetime,
-        check: m.check,
-        flags: m.flags,
-        body,
-        wait,
+        id,
+        state,
         srm: Ports::none(),
         ssn: Ports::none(),
     }
-}
-
-// Nothing but a number and a flag octet, and these only where the number is not 0.
-fn emptied(id: LspId, number: u32, flags: u8) -> Record
-    requires { number ≡ 0 → flags ≡ 0 }
-    ensures { Emptied id number flags result }
-{
-    let said = Lsp {
-        lifetime: 0,
-        id,
-        number,
-        check: NO_CHECK,
-        flags,
-        body: &[],
-    };
-    unflagged(&said, Body::empty(), 60)
 }
 
 impl Record {
@@ -66,7 +41,14 @@ impl Record {
             return None;
         }
         let body = Body::new(m.body).ok()?;
-        Some(unflagged(m, body, 0))
+        let state = State::Live {
+            number: m.number,
+            lifetime: m.lifetime,
+            check: m.check,
+            flags: m.flags,
+            body,
+        };
+        Some(unflagged(m.id, state))
     }
 
     // The record of an issue, unless its number is 0: lifetime 1,200, flag octet 01, computed check octets.
@@ -76,34 +58,47 @@ impl Record {
         if number == 0 {
             return None;
         }
-        let mut said = Lsp {
+        let said = Lsp {
             lifetime: 1200,
             id,
             number,
-            check: NO_CHECK,
+            check: CheckOctets::default(),
             flags: 1,
             body: body.as_slice(),
         };
-        said.check = computed_check(&said);
-        Some(unflagged(&said, body, 0))
+        let state = State::Live {
+            number,
+            lifetime: 1200,
+            check: computed_check(&said),
+            flags: 1,
+            body,
+        };
+        Some(unflagged(id, state))
     }
 
     // The purge of a number, unless that is 0; it waits 60.
+    #[tactic(auto, using(crate::proofs::FormLaws::waits_sixty))]
     pub fn purge(id: LspId, number: u32, flags: u8) -> Option<Record>
         ensures { MatchOption result (number ≡ 0) (λ x. (1 ≤ number) × Emptied id number flags x) }
     {
         if number > 0 {
-            Some(emptied(id, number, flags))
+            let state = State::Purge {
+                number,
+                flags,
+                wait: 60,
+            };
+            Some(unflagged(id, state))
         } else {
             None
         }
     }
 
     // A placeholder; it waits 60.
+    #[tactic(auto, using(crate::proofs::FormLaws::waits_sixty))]
     pub fn placeholder(id: LspId) -> Record
         ensures { Emptied id 0 0 result }
     {
-        emptied(id, 0, 0)
+        unflagged(id, State::Placeholder { wait: 60 })
     }
 }
 

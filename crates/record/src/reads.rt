@@ -1,8 +1,10 @@
-// What a record holds.
+// What a record holds: 0, the check octets 0 0 and the empty body where its form has none.
 ghost use Rattle.std.specs.Prelude.{◌≡◌};
+ghost use Rattle.record.specs.Forms.{number_of, lifetime_of, check_of, flags_of, body_of, wait_of};
 
 use crate::body::Body;
 use crate::record::Record;
+use crate::state::State;
 use octets::{CheckOctets, LspId};
 
 impl Record {
@@ -13,39 +15,57 @@ impl Record {
     }
 
     pub fn number(&self) -> u32
-        ensures { result ≡ self.now.number }
+        ensures { result ≡ number_of self.now }
     {
-        self.number
+        match self.state {
+            State::Live { number, .. } | State::Purge { number, .. } => number,
+            State::Placeholder { .. } => 0,
+        }
     }
 
     pub fn lifetime(&self) -> u16
-        ensures { result ≡ self.now.lifetime }
+        ensures { result ≡ lifetime_of self.now }
     {
-        self.lifetime
+        match self.state {
+            State::Live { lifetime, .. } => lifetime,
+            State::Purge { .. } | State::Placeholder { .. } => 0,
+        }
     }
 
     pub fn check(&self) -> CheckOctets
-        ensures { result ≡ self.now.check }
+        ensures { result ≡ check_of self.now }
     {
-        self.check
+        match self.state {
+            State::Live { check, .. } => check,
+            State::Purge { .. } | State::Placeholder { .. } => CheckOctets::default(),
+        }
     }
 
     // The flag octet.
     pub fn flags(&self) -> u8
-        ensures { result ≡ self.now.flags }
+        ensures { result ≡ flags_of self.now }
     {
-        self.flags
+        match self.state {
+            State::Live { flags, .. } | State::Purge { flags, .. } => flags,
+            State::Placeholder { .. } => 0,
+        }
     }
 
     pub fn body(&self) -> Body
-        ensures { result ≡ self.now.body }
+        ensures { result ≡ body_of self.now }
     {
-        self.body
+        match self.state {
+            State::Live { body, .. } => body,
+            State::Purge { .. } | State::Placeholder { .. } => Body::empty(),
+        }
     }
 
     pub fn wait(&self) -> u8
-        ensures { result ≡ self.now.wait }
+        ensures { result ≡ wait_of self.now }
     {
-        self.wait
+        match self.state {
+            State::Live { .. } => 0,
+            State::Purge { wait, .. } | State::Placeholder { wait } => wait,
+        }
     }
 }

@@ -2,11 +2,12 @@
 #![tactic(auto)]
 
 use record::{Body, Record};
+use std::io;
 use store::{Request, Store, Table, ask};
 
 mod text;
 
-use text::{answer_line, record_line};
+use text::{ShownAnswer, ShownRequest};
 
 // The identifier of a system's first LSP.
 fn lsp_id(system: u8) -> [u8; 8] {
@@ -15,33 +16,29 @@ fn lsp_id(system: u8) -> [u8; 8] {
 
 // Asks a store, and prints what it answered.
 fn put<S: Store>(
-    rt: &HostRuntime,
+    rt: &impl Print,
     store: &mut S,
     router: usize,
     request: Request,
-) -> anyhow::Result<()> {
-    let answer = ask(store, router, request);
-    let line = answer_line(rt.alloc(), router, request, answer)?;
-    rt.print(line.as_str())?;
-    Ok(())
+) -> io::Result<()> {
+    let answer = ShownAnswer(ask(store, router, request));
+    let request = ShownRequest(request);
+    println!(rt; "router {router} {request}: {answer}")
 }
 
 // Prints a router's records.
-fn list<S: Store>(rt: &HostRuntime, store: &S, router: usize) -> anyhow::Result<()> {
+fn list<S: Store>(rt: &impl Print, store: &S, router: usize) -> io::Result<()> {
     println!(rt; "router {router} lists")?;
-    for n in 0..32usize {
-        if let Ok(found) = store.nth(router, n) {
-            if let Some(item) = found {
-                let line = record_line(rt.alloc(), &item)?;
-                println!(rt; "  {line}")?;
-            }
+    for n in 0..store.count(router).unwrap_or(0) {
+        if let Ok(Some(item)) = store.nth(router, n) {
+            println!(rt; "  {item}")?;
         }
     }
     Ok(())
 }
 
 // One record of each form, replaced and removed.
-fn few<S: Store>(rt: &HostRuntime, store: &mut S) -> anyhow::Result<()> {
+fn few<S: Store>(rt: &impl Print, store: &mut S) -> io::Result<()> {
     put(rt, store, 0, Request::Count)?;
     put(rt, store, 0, Request::Nth(0))?;
     if let Some(item) = Record::issue(lsp_id(2), 1, Body::empty()) {
@@ -52,10 +49,10 @@ fn few<S: Store>(rt: &HostRuntime, store: &mut S) -> anyhow::Result<()> {
     }
     put(rt, store, 0, Request::Set(Record::placeholder(lsp_id(1))))?;
     list(rt, store, 0)?;
-    if let Ok(body) = Body::new(&[0x81, 1, 0xCC]) {
-        if let Some(item) = Record::issue(lsp_id(2), 2, body) {
-            put(rt, store, 0, Request::Set(item))?;
-        }
+    if let Ok(body) = Body::new(&[0x81, 1, 0xCC])
+        && let Some(item) = Record::issue(lsp_id(2), 2, body)
+    {
+        put(rt, store, 0, Request::Set(item))?;
     }
     put(rt, store, 0, Request::Find(lsp_id(2)))?;
     put(rt, store, 0, Request::Find(lsp_id(4)))?;
@@ -65,7 +62,7 @@ fn few<S: Store>(rt: &HostRuntime, store: &mut S) -> anyhow::Result<()> {
 }
 
 // All 32 places of another router, and one more.
-fn many<S: Store>(rt: &HostRuntime, store: &mut S) -> anyhow::Result<()> {
+fn many<S: Store>(rt: &impl Print, store: &mut S) -> io::Result<()> {
     for system in 0..32u8 {
         put(
             rt,
@@ -86,7 +83,7 @@ fn many<S: Store>(rt: &HostRuntime, store: &mut S) -> anyhow::Result<()> {
 }
 
 // No such router.
-fn none<S: Store>(rt: &HostRuntime, store: &mut S) -> anyhow::Result<()> {
+fn none<S: Store>(rt: &impl Print, store: &mut S) -> io::Result<()> {
     put(rt, store, 8, Request::Set(Record::placeholder(lsp_id(1))))?;
     put(rt, store, 8, Request::Remove(lsp_id(1)))?;
     put(rt, store, 8, Request::Find(lsp_id(1)))?;
@@ -94,13 +91,13 @@ fn none<S: Store>(rt: &HostRuntime, store: &mut S) -> anyhow::Result<()> {
     put(rt, store, 8, Request::Nth(0))
 }
 
-fn demo<S: Store>(rt: &HostRuntime, store: &mut S) -> anyhow::Result<()> {
+fn demo<S: Store>(rt: &impl Print, store: &mut S) -> io::Result<()> {
     few(rt, store)?;
     many(rt, store)?;
     none(rt, store)
 }
 
-fn main(rt: HostRuntime) -> anyhow::Result<()> {
+fn main(rt: HostRuntime) -> io::Result<()> {
     let mut table = Table::new();
     demo(&rt, &mut table)
 }

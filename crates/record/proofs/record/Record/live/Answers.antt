@@ -1,12 +1,13 @@
-use Rattle.std.proofs.Common.{◌≡◌, ℕ, false, List, Some, None, Ok, Err, Result, MatchResult, is_ok, sym, refl, ◌∙◌, arith}
+use Rattle.std.proofs.Common.{◌≡◌, ℕ, false, List, Some, None, Ok, Err, Result, MatchResult, is_ok, sym, subst, ◌∙◌, arith, rules, true}
 use Rattle.std.proofs.lemmas.Bool.{true≢false, false≢true, not-true, not-false}
 use Rattle.fault.specs.declared.FrameFault.{FrameFault}
 use Rattle.octets.specs.Fields.{body_fault}
 use Rattle.octets.proofs.FieldLaws.{body_fits}
 use Rattle.frame.specs.Meaning.{lsp_said}
 use Rattle.record.specs.declared.body.Body.{Body}
-use Rattle.record.specs.Bodies.{body_octets}
-use Rattle.record.proofs.FormLaws.{live_formed}
+use Rattle.record.specs.States.{live_form}
+use Rattle.record.specs.Bodies.{body_octets, lsp_by}
+use Rattle.record.proofs.FormLaws.{lived}
 use Rattle.record.proofs.SayLaws.{checked_right}
 use Rattle.record.proofs.record.Record.live.Goals as goal
 
@@ -34,11 +35,7 @@ pub unflagged-requires-clause-form : goal.unflagged-requires-clause-form
 unflagged-requires-clause-form c =
     let m = lsp_said c.args.m.now in
     let k = checked_right m c.computed_check.result (omega arith) (omega arith) c.computed_check.ensures.is c.computed_check.ensures.right in
-    live_formed m 0
-    (record {
-      number = omega arith;
-      lifetime = omega arith;
-      short = omega arith;
-      wait = refl;
-      sums = sym k ∙ not-false _ (sym c.ne.ensures ∙ c.if-ne.false);
-    })
+    let e : body_octets c.in_ok-body.body ≡ m.body = search rules in
+    subst (λ (b : List ℕ). live_form (lsp_by m.lifetime c.args.m.now.id m.number m.check m.flags b) ≡ true) (sym e)
+    (lived m
+    (record { number = omega arith; lifetime = omega arith; short = omega arith; sums = sym k ∙ not-false _ (sym c.ne.ensures ∙ c.if-ne.false) }))
