@@ -32,10 +32,26 @@ fn computed_checks(rt: HostRuntime) {
 // The parts of these LSPs from octet 12 on, with 09 09 at places 13 and 14, counted from 1, and the right check octets
 // there. The others have no octets but the check octets, or no places for them.
 static PARTS: [(&[u8], usize, Option<CheckOctets>); 7] = [
-    (b"\0\0\0\0\0\x01\0\0\0\0\0\x01\x09\x09\x01", 13, Some(OF_ONE)),
-    (b"\0\0\0\0\0\x01\0\0\0\0\0\x02\x09\x09\x01", 13, Some(OF_TWO)),
-    (b"\0\0\0\0\0\x01\0\0\0\0\0\x01\x09\x09\x01\x81\x01\xcc", 13, Some(OF_FIELD)),
-    (b"\0\0\0\0\0\x01\0\0\0\0\0\x7c\x09\x09\x01", 13, Some(OF_124)),
+    (
+        b"\0\0\0\0\0\x01\0\0\0\0\0\x01\x09\x09\x01",
+        13,
+        Some(OF_ONE),
+    ),
+    (
+        b"\0\0\0\0\0\x01\0\0\0\0\0\x02\x09\x09\x01",
+        13,
+        Some(OF_TWO),
+    ),
+    (
+        b"\0\0\0\0\0\x01\0\0\0\0\0\x01\x09\x09\x01\x81\x01\xcc",
+        13,
+        Some(OF_FIELD),
+    ),
+    (
+        b"\0\0\0\0\0\x01\0\0\0\0\0\x7c\x09\x09\x01",
+        13,
+        Some(OF_124),
+    ),
     (b"\x09\x09", 1, Some(CheckOctets { x: 0xff, y: 0xff })),
     (b"\x09\x09", 0, None),
     (b"\x09\x09", 2, None),

@@ -111,10 +111,7 @@ static REFUSALS: [(FrameFault, u8, usize); 40] = [
 ];
 
 // An answer, once its refusal, if it is one, is found to have the number and the place of the table.
-pub(crate) fn numbered<T>(
-    rt: &impl Abort,
-    answer: Result<T, FrameFault>,
-) -> Result<T, FrameFault> {
+pub(crate) fn numbered<T>(rt: &impl Abort, answer: Result<T, FrameFault>) -> Result<T, FrameFault> {
     if let Err(fault) = &answer {
         assert!(rt; REFUSALS.contains(&(*fault, fault.number(), fault.place())));
     }

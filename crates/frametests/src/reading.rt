@@ -127,7 +127,10 @@ static KINDS: [(&[u8], Result<Kind, FrameFault>); 6] = [
 
 #[test]
 fn reads_kinds(rt: HostRuntime) {
-    assert_eq!(rt; [Kind::Lsp, Kind::Csnp, Kind::Psnp].map(u8::from), [18, 24, 26]);
+    assert_eq!(rt;
+        [Kind::Lsp, Kind::Csnp, Kind::Psnp].map(u8::from),
+        [18, 24, 26]
+    );
     for (frame, want) in &KINDS {
         assert_eq!(rt; numbered(&rt, FrameReader::new(*frame).kind()), *want);
     }

@@ -104,7 +104,12 @@ fn refuses_lsps(rt: HostRuntime) {
         let mut octets = [0xaa; 300];
         let buf = &mut octets[..case.room];
         let m = lsp(case.lifetime, case.number, case.check, case.body);
-        assert_eq!(rt; numbered(&rt, write_lsp(&m, buf)), case.want, "{}", case.name);
+        assert_eq!(rt;
+            numbered(&rt, write_lsp(&m, buf)),
+            case.want,
+            "{}",
+            case.name
+        );
         if case.want.is_err() {
             assert_eq!(rt; octets, [0xaa; 300], "{}", case.name);
         }

@@ -76,7 +76,6 @@ whole_none at (field code value rest w) =
     let e : after xs ≡ rest = two_on (2 + length value) code (length value) (value ++ rest) refl ∙ drop_at value rest (length value) refl in
     broken_more at xs s ∙ ap (broken_field (at + (2 + length value))) e ∙ whole_none (at + (2 + length value)) w
 
-
 within_place : (n at : ℕ) (xs : List ℕ) (e : FrameFault) → broken_within n at xs ≡ Some e → (q : ℕ) × (e ≡ Field q) × (at ≤ q)
 within_place n at [] e h = let z : ◌≡◌ {A = ℕ} 0 1 = cc in absurd (omega arith)
 within_place zero at (x ∷ xs) e h = (at, cc, omega arith)

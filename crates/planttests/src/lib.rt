@@ -20,20 +20,12 @@ mod tests {
 
     const SIZE: CallFault = CallFault::Frame(FrameFault::Size);
 
-    // The refusals of plants, with their numbers.
-    const REFUSALS: [(CallFault, u8); 4] = [(SIZE, 4), (Unknown, 8), (TooMany, 11), (Waiting, 18)];
-
-    // Checks a refusal's number by the table.
-    fn check_number(rt: &impl Abort, fault: CallFault) {
-        assert!(rt; REFUSALS.contains(&(fault, fault.number())));
-    }
-
-    // An answer, once its refusal, if it is one, is found to have the number of the table.
-    fn numbered<T>(rt: &impl Abort, answer: Result<T, CallFault>) -> Result<T, CallFault> {
-        if let Err(fault) = &answer {
-            check_number(rt, *fault);
-        }
-        answer
+    // The numbers of the refusals of plants.
+    fn numbers(rt: &impl Abort) {
+        assert_eq!(rt; SIZE.number(), 4);
+        assert_eq!(rt; Unknown.number(), 8);
+        assert_eq!(rt; TooMany.number(), 11);
+        assert_eq!(rt; Waiting.number(), 18);
     }
 
     // The circuit of a plant that has one, and the first of others.
@@ -64,7 +56,7 @@ mod tests {
         let octets = [9; 276];
         for (end, length, want) in table.iter().copied() {
             assert!(rt; length <= 276);
-            assert_eq!(rt; numbered(rt, plant.put(end, &octets[..length])), want);
+            assert_eq!(rt; plant.put(end, &octets[..length]), want);
         }
     }
 
@@ -76,7 +68,7 @@ mod tests {
     ) {
         for (end, want) in table.iter().copied() {
             let mut buffer = [5; 275];
-            assert_eq!(rt; numbered(rt, plant.take(end, &mut buffer)), want);
+            assert_eq!(rt; plant.take(end, &mut buffer), want);
         }
     }
 
@@ -121,6 +113,7 @@ mod tests {
     fn faded_frames_reach_nothing_and_refused_ones_are_not_counted(
         rt: HostRuntime,
     ) -> Result<(), Fail> {
+        numbers(&rt);
         let mut fader = Fader::new(Segment::new(8)?, patterns(5));
         puts(&rt, &mut fader, &[(FIRST.end(3), 1, Ok(7))]);
         assert!(rt; is_quiet(fader.below()));
@@ -152,6 +145,7 @@ mod tests {
 
     #[test]
     fn sizes_of_frames(rt: HostRuntime) -> Result<(), Fail> {
+        numbers(&rt);
         let mut plant = pair(Cable::new(), Segment::new(2)?)?;
         for c in [Circuit(0), Circuit(1)] {
             puts(
@@ -183,12 +177,12 @@ mod tests {
 
     #[test]
     fn sizes_of_buffers(rt: HostRuntime) -> Result<(), Fail> {
+        numbers(&rt);
         let mut cable = Cable::new();
         let mut small = [5; 274];
         let mut buffer = [5; 275];
         let _ = cable.put(FIRST.end(0), &[1, 2])?;
-        let refused = cable.take(Circuit(9).end(1), &mut small);
-        assert_eq!(rt; numbered(&rt, refused), Err(SIZE));
+        assert_eq!(rt; cable.take(Circuit(9).end(1), &mut small), Err(SIZE));
         assert_eq!(rt; cable.take(FIRST.end(1), &mut buffer), Ok(Some(2)));
         assert_eq!(rt; &buffer[..2], &[1, 2][..]);
         assert_eq!(rt; &buffer[2..], &[5; 273][..]);
@@ -197,6 +191,7 @@ mod tests {
 
     #[test]
     fn segments_have_2_to_8_ends(rt: HostRuntime) {
+        numbers(&rt);
         for (n, want) in [
             (0, Err(Unknown)),
             (1, Err(Unknown)),
@@ -205,7 +200,7 @@ mod tests {
             (9, Err(Unknown)),
         ] {
             let ends = Segment::new(n).and_then(|segment| segment.ends(FIRST));
-            assert_eq!(rt; numbered(&rt, ends), want);
+            assert_eq!(rt; ends, want);
         }
     }
 
@@ -221,11 +216,16 @@ mod tests {
             waiting(rt, plant, circuit, &[true, false]);
         }
         let absent = Circuit(table.len()).end(1);
-        puts(rt, plant, &[(absent, 1, Err(Unknown)), (absent, 0, Err(SIZE))]);
+        puts(
+            rt,
+            plant,
+            &[(absent, 1, Err(Unknown)), (absent, 0, Err(SIZE))],
+        );
     }
 
     #[test]
     fn pairs_of_pairs_number_on(rt: HostRuntime) -> Result<(), Fail> {
+        numbers(&rt);
         let left = pair(Cable::new(), Segment::new(3)?)?;
         let right = pair(Segment::new(8)?, Cable::new())?;
         let mut plant = pair(left, right)?;
@@ -260,7 +260,6 @@ mod tests {
             &[(last.end(0), 1, Ok(0)), (absent.end(0), 1, Err(Unknown))],
         );
         let back = Pair::new(twelve, Cable::new()).err().ok_or("13 circuits")?;
-        check_number(rt, back.refusal);
         assert_eq!(rt; back.refusal, TooMany);
         assert_eq!(rt; back.second.circuits(), 1);
         waiting(rt, &back.first, last, &[false, true]);
@@ -269,6 +268,7 @@ mod tests {
 
     #[test]
     fn plants_have_at_most_12_circuits(rt: HostRuntime) -> Result<(), Fail> {
+        numbers(&rt);
         is_full(&rt, pair(pair(four()?, four()?)?, four()?)?)
     }
 }

@@ -36,9 +36,15 @@ fn heard(rt: HostRuntime) {
         body: &[],
     };
     assert!(rt; Record::live(&right).is_some());
-    let purged = Lsp { lifetime: 0, ..right };
+    let purged = Lsp {
+        lifetime: 0,
+        ..right
+    };
     assert!(rt; Record::live(&purged).is_none());
-    let long = Lsp { lifetime: 1201, ..right };
+    let long = Lsp {
+        lifetime: 1201,
+        ..right
+    };
     assert!(rt; Record::live(&long).is_none());
     let flagged = Lsp {
         lifetime: 1,

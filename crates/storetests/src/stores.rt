@@ -52,7 +52,10 @@ fn counts(rt: HostRuntime) {
 
 #[test]
 fn the_33rd(rt: HostRuntime) {
-    assert_eq!(rt; [CallFault::Full, CallFault::Unknown].map(CallFault::number), [9, 8]);
+    assert_eq!(rt;
+        [CallFault::Full, CallFault::Unknown].map(CallFault::number),
+        [9, 8]
+    );
     let mut table = Table::new();
     fill(&rt, &mut table, 4, 32);
     assert_eq!(rt; hold(&mut table, 4, lsp_id(2, 0)), Err(CallFault::Full));
