@@ -1,6 +1,6 @@
 // Check octets, identifiers and fields.
 use crate::frames::*;
-use frame::Lsp;
+use fault::FrameFault::{self, Body, Field};
 use octets::{
     CheckOctets, LspId, before, check_body, check_octets, covered, is_right, order, read_field,
     same,
@@ -9,55 +9,50 @@ use std::cmp::Ordering;
 use std::test::Fail;
 use writer::computed_check;
 
+// The check octets of an LSP of number 124, without a body.
+const OF_124: CheckOctets = CheckOctets { x: 0xff, y: 0x81 };
+
 // A number, a body, and the check octets of an LSP of identifier ONE and flag octet 01, worked elsewhere.
-static LSPS: [(u32, &[u8], [u8; 2]); 4] = [
-    (1, b"", [0xf6, 0x06]),
-    (2, b"", [0xf4, 0x07]),
-    (1, b"\x81\x01\xcc", [0x30, 0x7d]),
-    (124, b"", [0xff, 0x81]),
+static LSPS: [(u32, &[u8], CheckOctets); 4] = [
+    (1, b"", OF_ONE),
+    (2, b"", OF_TWO),
+    (1, b"\x81\x01\xcc", OF_FIELD),
+    (124, b"", OF_124),
 ];
 
 // The check octets of an LSP, whatever its lifetime is and whatever check octets it has.
 #[test]
 fn computed_checks(rt: HostRuntime) {
     for (number, body, want) in &LSPS {
-        let m = Lsp {
-            lifetime: 7,
-            id: ONE,
-            number: *number,
-            check: CheckOctets { x: 1, y: 2 },
-            flags: 1,
-            body: *body,
-        };
-        let c = computed_check(&m);
-        assert_eq!(rt; [c.x, c.y], *want);
+        let m = lsp(7, *number, CheckOctets { x: 1, y: 2 }, *body);
+        assert_eq!(rt; computed_check(&m), *want);
     }
 }
 
 // The parts of these LSPs from octet 12 on, with 09 09 at places 13 and 14, counted from 1, and the right check octets
 // there. The others have no octets but the check octets, or no places for them.
-static PARTS: [(&[u8], usize, Option<[u8; 2]>); 7] = [
+static PARTS: [(&[u8], usize, Option<CheckOctets>); 7] = [
     (
         b"\0\0\0\0\0\x01\0\0\0\0\0\x01\x09\x09\x01",
         13,
-        Some([0xf6, 0x06]),
+        Some(OF_ONE),
     ),
     (
         b"\0\0\0\0\0\x01\0\0\0\0\0\x02\x09\x09\x01",
         13,
-        Some([0xf4, 0x07]),
+        Some(OF_TWO),
     ),
     (
         b"\0\0\0\0\0\x01\0\0\0\0\0\x01\x09\x09\x01\x81\x01\xcc",
         13,
-        Some([0x30, 0x7d]),
+        Some(OF_FIELD),
     ),
     (
         b"\0\0\0\0\0\x01\0\0\0\0\0\x7c\x09\x09\x01",
         13,
-        Some([0xff, 0x81]),
+        Some(OF_124),
     ),
-    (b"\x09\x09", 1, Some([0xff, 0xff])),
+    (b"\x09\x09", 1, Some(CheckOctets { x: 0xff, y: 0xff })),
     (b"\x09\x09", 0, None),
     (b"\x09\x09", 2, None),
 ];
@@ -65,11 +60,7 @@ static PARTS: [(&[u8], usize, Option<[u8; 2]>); 7] = [
 #[test]
 fn part_checks(rt: HostRuntime) {
     for (part, p, want) in &PARTS {
-        let got = match check_octets(*part, *p) {
-            Some(c) => Some([c.x, c.y]),
-            None => None,
-        };
-        assert_eq!(rt; got, *want);
+        assert_eq!(rt; check_octets(*part, *p), *want);
     }
 }
 
@@ -144,51 +135,43 @@ static PAIRS: [(LspId, LspId, Ordering); 8] = [
 #[test]
 fn identifiers(rt: HostRuntime) {
     for (a, b, want) in &PAIRS {
-        let less = matches!(want, Ordering::Less);
-        let equal = matches!(want, Ordering::Equal);
         assert_eq!(rt; order(*a, *b), *want);
         assert_eq!(rt;
             (before(*a, *b), same(*a, *b), before(*b, *a)),
-            (less, equal, !less && !equal)
+            (want.is_lt(), want.is_eq(), want.is_gt())
         );
     }
 }
 
-// A body, the place of its first octet, and the refusal.
-static FIELDS: [(&[u8], u16, Option<Refusal>); 15] = [
-    (b"", 0, None),
-    (b"\x01", 0, Some((5, 0))),
-    (b"\x01", 27, Some((5, 27))),
-    (b"\x01\x00", 27, None),
-    (b"\x01\x01", 0, Some((5, 0))),
-    (b"\x01\x01\x07", 0, None),
-    (b"\x01\x01\x07\x08", 0, Some((5, 3))),
-    (b"\x01\x01\x07\x08", 27, Some((5, 30))),
-    (b"\x01\x01\x07\x08\x00", 0, None),
-    (b"\x01\x00\x02\x00\x03\x02\x09", 27, Some((5, 31))),
-    (b"\x01\x00\x02\x00\x03\x01\x09", 27, None),
-    (&[0; 99], 0, Some((5, 98))),
-    (&[0; 100], 0, None),
-    (&[0; 101], 0, Some((5, 0))),
-    (&[0; 102], 27, Some((5, 27))),
+// A body, the place of its first octet, and the answer.
+static FIELDS: [(&[u8], u16, Result<(), FrameFault>); 15] = [
+    (b"", 0, Ok(())),
+    (b"\x01", 0, Err(Field(0))),
+    (b"\x01", 27, Err(Field(27))),
+    (b"\x01\x00", 27, Ok(())),
+    (b"\x01\x01", 0, Err(Field(0))),
+    (b"\x01\x01\x07", 0, Ok(())),
+    (b"\x01\x01\x07\x08", 0, Err(Field(3))),
+    (b"\x01\x01\x07\x08", 27, Err(Field(30))),
+    (b"\x01\x01\x07\x08\x00", 0, Ok(())),
+    (b"\x01\x00\x02\x00\x03\x02\x09", 27, Err(Field(31))),
+    (b"\x01\x00\x02\x00\x03\x01\x09", 27, Ok(())),
+    (&[0; 99], 0, Err(Field(98))),
+    (&[0; 100], 0, Ok(())),
+    (&[0; 101], 0, Err(Body(0))),
+    (&[0; 102], 27, Err(Body(27))),
 ];
 
 #[test]
 fn fields(rt: HostRuntime) {
     for (body, place, want) in &FIELDS {
-        let got = match check_body(*body, *place) {
-            Ok(()) => None,
-            Err(fault) => Some(refusal(fault)),
-        };
-        assert_eq!(rt; got, *want);
+        assert_eq!(rt; numbered(&rt, check_body(*body, *place)), *want);
     }
 }
 
 #[test]
 fn first_field(rt: HostRuntime) -> Result<(), Fail> {
-    let Ok(field) = read_field(b"\x08\x02\x05\x06\x07", 3) else {
-        return Err(Fail::new("a whole field is refused"));
-    };
+    let field = read_field(b"\x08\x02\x05\x06\x07", 3)?;
     let (value, rest): (&[u8], &[u8]) = (b"\x05\x06", b"\x07");
     assert_eq!(rt; field, (8, value, rest));
     Ok(())

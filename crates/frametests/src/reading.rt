@@ -1,16 +1,18 @@
 // What frames that are read say.
 use crate::frames::*;
-use frame::{Entry, FrameReader};
+use fault::FrameFault::{self, Length, Short};
+use frame::{Entry, FrameReader, Kind};
 use octets::{CheckOctets, IdRange};
 use std::test::Fail;
 
 // An LSP of lifetime 0 keeps its check octets, whatever they are.
 #[test]
 fn reads_lsps(rt: HostRuntime) {
-    let live = Some((1200, ONE, 1, [0x30, 0x7d], 1));
-    assert_eq!(rt; lsp_said(FIELD_LSP), live);
-    let purged = Some((0, ONE, 1, [0x12, 0x34], 1));
-    assert_eq!(rt; lsp_said(PURGED_FIELD_LSP), purged);
+    let body = b"\x81\x01\xcc";
+    let live = lsp(1200, 1, OF_FIELD, body);
+    assert_eq!(rt; lsp_of(FIELD_LSP), Some(live));
+    let purged = lsp(0, 1, CheckOctets { x: 0x12, y: 0x34 }, body);
+    assert_eq!(rt; lsp_of(PURGED_FIELD_LSP), Some(purged));
 }
 
 #[test]
@@ -38,21 +40,6 @@ const TWO_OCTETS: &[u8; 32] = b"\x04\xb0\0\0\0\0\0\x01\0\0\0\0\0\x01\xf6\x06\
 // An LSP whose check octets are those of number 2.
 const WRONG_LSP: &[u8; 27] = b"\x83\x1b\x01\x00\x12\x01\x00\x00\x00\x1b\
     \x04\xb0\x00\x00\x00\x00\x00\x01\x00\x00\x00\x00\x00\x01\xf4\x07\x01";
-
-// What these say.
-const FIRST: Entry = Entry {
-    lifetime: 1200,
-    id: ONE,
-    number: 1,
-    check: CheckOctets { x: 0xf6, y: 0x06 },
-};
-
-const SECOND: Entry = Entry {
-    lifetime: 7,
-    id: [0, 0, 0, 0, 0, 2, 0, 0],
-    number: 0x01020304,
-    check: CheckOctets { x: 0xab, y: 0xcd },
-};
 
 // A summary, which entry of it, from 0, and what it says.
 static ENTRIES: [(&[u8], usize, Option<Entry>); 8] = [
@@ -128,23 +115,23 @@ fn reads_contents(rt: HostRuntime) {
     }
 }
 
-// A frame, and its kind's octet or the header's refusal. Wrong check octets are not the header's.
-static KINDS: [(&[u8], Result<u8, Refusal>); 6] = [
-    (LSP, Ok(18)),
-    (WRONG_LSP, Ok(18)),
-    (CSNP, Ok(24)),
-    (PSNP, Ok(26)),
-    (b"\x83\x1b\x01\x00\x12\x01\x00\x00\x00\x1b", Err((4, 8))),
-    (b"\x83", Err((1, 1))),
+// A frame, and its kind or the header's refusal. Wrong check octets are not the header's.
+static KINDS: [(&[u8], Result<Kind, FrameFault>); 6] = [
+    (LSP, Ok(Kind::Lsp)),
+    (WRONG_LSP, Ok(Kind::Lsp)),
+    (CSNP, Ok(Kind::Csnp)),
+    (PSNP, Ok(Kind::Psnp)),
+    (b"\x83\x1b\x01\x00\x12\x01\x00\x00\x00\x1b", Err(Length)),
+    (b"\x83", Err(Short(1))),
 ];
 
 #[test]
 fn reads_kinds(rt: HostRuntime) {
+    assert_eq!(rt;
+        [Kind::Lsp, Kind::Csnp, Kind::Psnp].map(u8::from),
+        [18, 24, 26]
+    );
     for (frame, want) in &KINDS {
-        let got = match FrameReader::new(*frame).kind() {
-            Ok(kind) => Ok(u8::from(kind)),
-            Err(fault) => Err(refusal(fault)),
-        };
-        assert_eq!(rt; got, *want);
+        assert_eq!(rt; numbered(&rt, FrameReader::new(*frame).kind()), *want);
     }
 }

@@ -1,41 +1,23 @@
 // Writing LSPs.
 use crate::frames::*;
+use fault::FrameFault::{self, Body, Check, Field, Length, Lifetime, Number, Size};
 use frame::Lsp;
 use octets::CheckOctets;
 use std::process::Abort;
 use std::test::Fail;
 use writer::{computed_check, write_lsp};
 
-// An LSP of identifier ONE and flag octet 01.
-fn lsp(lifetime: u16, number: u32, check: [u8; 2], body: &[u8]) -> Lsp<'_> {
-    let [x, y] = check;
-    Lsp {
-        lifetime,
-        id: ONE,
-        number,
-        check: CheckOctets { x, y },
-        flags: 1,
-        body,
-    }
-}
-
-// The length of what is written, or the refusal.
-fn written(m: &Lsp<'_>, buf: &mut [u8]) -> Result<usize, Refusal> {
-    match write_lsp(m, buf) {
-        Ok(n) => Ok(n),
-        Err(fault) => Err(refusal(fault)),
-    }
-}
-
 // What is written, and that the octets behind it stay.
 #[test]
 fn writes_lsps(rt: HostRuntime) {
     let mut buf = [0xaa; 275];
-    let m = lsp(1200, 1, [0x30, 0x7d], &[0x81, 1, 0xcc]);
-    assert_eq!(rt; written(&m, &mut buf), Ok(30));
+    let m = lsp(1200, 1, OF_FIELD, b"\x81\x01\xcc");
+    assert_eq!(rt; write_lsp(&m, &mut buf), Ok(30));
     assert_eq!(rt; &buf[0..30], &FIELD_LSP[..]);
     assert_eq!(rt; &buf[30..], &[0xaa; 245][..]);
 }
+
+const ONES: CheckOctets = CheckOctets { x: 1, y: 1 };
 
 // A lifetime, a number and a body.
 static LIVES: [(u16, u32, &[u8]); 4] = [
@@ -46,13 +28,13 @@ static LIVES: [(u16, u32, &[u8]); 4] = [
 ];
 
 fn check_trip(rt: &impl Abort, lifetime: u16, number: u32, body: &[u8]) -> Result<(), Fail> {
-    let c = computed_check(&lsp(lifetime, number, [0, 0], body));
+    let mut m = lsp(lifetime, number, ONES, body);
+    m.check = computed_check(&m);
     let mut buf = [0xaa; 275];
-    let n = written(&lsp(lifetime, number, [c.x, c.y], body), &mut buf)?;
+    let n = write_lsp(&m, &mut buf)?;
     assert!(rt; n <= 275);
-    let frame = &buf[0..n];
-    let want = Some((lifetime, ONE, number, [c.x, c.y], 1));
-    assert_eq!(rt; lsp_said(frame), want);
+    let frame = &buf[..n];
+    assert_eq!(rt; lsp_of(frame), Some(m));
     assert_eq!(rt; content(frame), Some((27, body)));
     Ok(())
 }
@@ -66,70 +48,70 @@ fn reads_what_it_writes(rt: HostRuntime) -> Result<(), Fail> {
     Ok(())
 }
 
-// A name, a buffer's size, an LSP's lifetime, number, check octets and body, and the answer.
-struct Case(
-    &'static str,
-    usize,
-    u16,
-    u32,
-    [u8; 2],
-    &'static [u8],
-    Result<usize, Refusal>,
-);
-
-static CASES: [Case; 19] = [
-    Case("no buffer", 0, 0, 1, [1, 1], b"", Err((4, 0))),
-    Case("274", 274, 0, 1, [1, 1], b"", Err((4, 0))),
-    Case("275", 275, 0, 1, [1, 1], b"", Ok(27)),
-    Case("276", 276, 1200, 1, [0xf6, 0x06], b"", Ok(27)),
-    Case("lifetime", 275, 1201, 1, [0xf6, 0x06], b"", Err((6, 10))),
-    Case("number 0", 275, 9, 0, [0xf6, 0x06], b"", Err((6, 20))),
-    Case("both", 275, 1201, 0, [0xf6, 0x06], b"", Err((6, 10))),
-    Case("number 2", 275, 9, 2, [0xf4, 0x07], b"", Ok(27)),
-    Case("check octets", 275, 9, 2, [0xf6, 0x06], b"", Err((7, 24))),
-    Case(
-        "broken field",
-        275,
-        0,
-        1,
-        [1, 1],
-        b"\x01\x00\x08\x01",
-        Err((5, 29)),
-    ),
-    Case("field, number", 275, 0, 0, [1, 1], b"\x08", Err((5, 27))),
-    Case(
-        "whole fields",
-        275,
-        0,
-        1,
-        [1, 1],
-        b"\x01\x00\x08\x01\x00",
-        Ok(32),
-    ),
-    Case("buffer, lifetime", 274, 1201, 1, [1, 1], b"", Err((4, 0))),
-    Case("body of 100", 275, 0, 1, [1, 1], &[0; 100], Ok(127)),
-    Case("body of 101", 275, 0, 1, [1, 1], &[0; 101], Err((5, 27))),
-    Case("body of 248", 300, 0, 1, [1, 1], &[0; 248], Err((5, 27))),
-    Case("body of 249", 300, 0, 1, [1, 1], &[0; 249], Err((4, 8))),
-    Case("249 in 274", 274, 0, 1, [1, 1], &[0; 249], Err((4, 0))),
-    Case("body of 1000", 275, 0, 1, [1, 1], &[0; 1000], Err((4, 8))),
-];
-
-// Checks the answer of a buffer of octets AA. A refusal leaves it as it was.
-fn check_case(rt: &impl Abort, case: &Case, buf: &mut [u8]) {
-    let m = lsp(case.2, case.3, case.4, case.5);
-    assert_eq!(rt; written(&m, buf), case.6, "{}", case.0);
-    assert!(rt; buf.len() <= 300);
-    if case.6.is_err() {
-        assert_eq!(rt; &*buf, &[0xaa; 300][0..buf.len()], "{}", case.0);
-    }
+// A buffer's size, an LSP's lifetime, number, check octets and body, and the answer.
+struct Case {
+    name: &'static str,
+    room: usize,
+    lifetime: u16,
+    number: u32,
+    check: CheckOctets,
+    body: &'static [u8],
+    want: Result<usize, FrameFault>,
 }
 
+// Cases, one in a line: name, room, lifetime, number, check octets, body => answer.
+macro_rules! cases {
+    ($($name:literal, $room:expr, $lifetime:expr, $number:expr, $check:expr, $body:expr => $want:expr;)*) => {
+        &[$(Case {
+            name: $name,
+            room: $room,
+            lifetime: $lifetime,
+            number: $number,
+            check: $check,
+            body: $body,
+            want: $want,
+        }),*]
+    };
+}
+
+static CASES: &[Case] = cases! {
+    "no buffer", 0, 0, 1, ONES, b"" => Err(Size);
+    "274", 274, 0, 1, ONES, b"" => Err(Size);
+    "275", 275, 0, 1, ONES, b"" => Ok(27);
+    "276", 276, 1200, 1, OF_ONE, b"" => Ok(27);
+    "lifetime", 275, 1201, 1, OF_ONE, b"" => Err(Lifetime(10));
+    "number 0", 275, 9, 0, OF_ONE, b"" => Err(Number);
+    "both", 275, 1201, 0, OF_ONE, b"" => Err(Lifetime(10));
+    "number 2", 275, 9, 2, OF_TWO, b"" => Ok(27);
+    "check octets", 275, 9, 2, OF_ONE, b"" => Err(Check);
+    "broken field", 275, 0, 1, ONES, b"\x01\x00\x08\x01" => Err(Field(29));
+    "field, number", 275, 0, 0, ONES, b"\x08" => Err(Field(27));
+    "whole fields", 275, 0, 1, ONES, b"\x01\x00\x08\x01\x00" => Ok(32);
+    "buffer, lifetime", 274, 1201, 1, ONES, b"" => Err(Size);
+    "body of 100", 275, 0, 1, ONES, &[0; 100] => Ok(127);
+    "body of 101", 275, 0, 1, ONES, &[0; 101] => Err(Body(27));
+    "body of 248", 300, 0, 1, ONES, &[0; 248] => Err(Body(27));
+    "body of 249", 300, 0, 1, ONES, &[0; 249] => Err(Length);
+    "249 in 274", 274, 0, 1, ONES, &[0; 249] => Err(Size);
+    "body of 1000", 275, 0, 1, ONES, &[0; 1000] => Err(Length);
+};
+
+// A refusal leaves a buffer of octets AA as it was.
 #[test]
 fn refuses_lsps(rt: HostRuntime) {
-    for case in &CASES {
-        assert!(rt; case.1 <= 300);
-        let mut buf = [0xaa; 300];
-        check_case(&rt, case, &mut buf[0..case.1]);
+    for case in CASES {
+        assert!(rt; case.room <= 300);
+        let mut octets = [0xaa; 300];
+        let buf = &mut octets[..case.room];
+        let m = lsp(case.lifetime, case.number, case.check, case.body);
+        assert_eq!(rt;
+            numbered(&rt, write_lsp(&m, buf)),
+            case.want,
+            "{}",
+            case.name
+        );
+        if case.want.is_err() {
+            assert_eq!(rt; octets, [0xaa; 300], "{}", case.name);
+        }
     }
 }

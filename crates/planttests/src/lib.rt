@@ -3,9 +3,10 @@
 // Tests of the plants, with values that were worked by hand.
 #[cfg(test)]
 mod tests {
-    use fault::CallFault;
+    use fault::CallFault::{self, TooMany, Unknown, Waiting};
+    use fault::FrameFault;
     use plant::asking::{drain, is_quiet};
-    use plant::{Circuit, Kind, Plant};
+    use plant::{Circuit, End, Kind, Plant};
     use spans::fader::Fader;
     use spans::pair::Pair;
     use std::process::Abort;
@@ -17,15 +18,25 @@ mod tests {
 
     type Four = Pair<Two, Two>;
 
+    const SIZE: CallFault = CallFault::Frame(FrameFault::Size);
+
+    // The numbers of the refusals of plants.
+    fn numbers(rt: &impl Abort) {
+        assert_eq!(rt; SIZE.number(), 4);
+        assert_eq!(rt; Unknown.number(), 8);
+        assert_eq!(rt; TooMany.number(), 11);
+        assert_eq!(rt; Waiting.number(), 18);
+    }
+
+    // The circuit of a plant that has one, and the first of others.
+    const FIRST: Circuit = Circuit(0);
+
     // Two plants joined.
     fn pair<P: Plant + Drop, Q: Plant + Drop>(
         first: P,
         second: Q,
     ) -> Result<Pair<P, Q>, CallFault> {
-        match Pair::new(first, second) {
-            Ok(pair) => Ok(pair),
-            Err(back) => Err(back.refusal),
-        }
+        Pair::new(first, second).map_err(|back| back.refusal)
     }
 
     fn two() -> Result<Two, CallFault> {
@@ -36,122 +47,129 @@ mod tests {
         pair(two()?, two()?)
     }
 
-    // Puts by a table: circuit, end, octets of the frame, the refusal's number or 0, and how many missed.
-    fn puts<P: Plant>(rt: &impl Abort, plant: &mut P, table: &[(usize, usize, usize, u8, usize)]) {
-        let octets = [9; 276];
-        for (circuit, end, length, refusal, missed) in table.iter().copied() {
-            assert!(rt; length <= 276);
-            match plant.put(Circuit(circuit).end(end), &octets[0..length]) {
-                Ok(n) => assert!(rt; refusal == 0 && n == missed),
-                Err(fault) => assert!(rt; refusal == fault.number()),
-            }
-        }
-    }
-
-    // Takes by a table: circuit, end, the refusal's number or 0, and the length taken, 0 for none.
-    fn takes<P: Plant>(rt: &impl Abort, plant: &mut P, table: &[(usize, usize, u8, usize)]) {
-        for (circuit, end, refusal, length) in table.iter().copied() {
-            let mut buffer = [5; 275];
-            match plant.take(Circuit(circuit).end(end), &mut buffer) {
-                Ok(got) => assert!(rt; refusal == 0 && got.unwrap_or(0) == length),
-                Err(fault) => assert!(rt; refusal == fault.number()),
-            }
-        }
-    }
-
-    // Whether a frame waits at each of the first ends of a circuit.
-    fn waiting<P: Plant>(
+    // Puts by a table: an end, octets of the frame, and the answer.
+    fn puts<P: Plant>(
         rt: &impl Abort,
-        plant: &P,
-        circuit: usize,
-        table: &[bool],
-    ) -> Result<(), Fail> {
-        for (end, waits) in table.iter().copied().enumerate() {
-            assert!(rt; plant.waits(Circuit(circuit).end(end))? == waits);
+        plant: &mut P,
+        table: &[(End, usize, Result<usize, CallFault>)],
+    ) {
+        let octets = [9; 276];
+        for (end, length, want) in table.iter().copied() {
+            assert!(rt; length <= 276);
+            assert_eq!(rt; plant.put(end, &octets[..length]), want);
         }
-        Ok(())
+    }
+
+    // Takes by a table: an end, and the answer.
+    fn takes<P: Plant>(
+        rt: &impl Abort,
+        plant: &mut P,
+        table: &[(End, Result<Option<usize>, CallFault>)],
+    ) {
+        for (end, want) in table.iter().copied() {
+            let mut buffer = [5; 275];
+            assert_eq!(rt; plant.take(end, &mut buffer), want);
+        }
+    }
+
+    // Checks whether a frame waits at each of the first ends of a circuit.
+    fn waiting<P: Plant>(rt: &impl Abort, plant: &P, circuit: Circuit, table: &[bool]) {
+        for (end, waits) in table.iter().copied().enumerate() {
+            assert_eq!(rt; plant.waits(circuit.end(end)), Ok(waits));
+        }
+    }
+
+    // The pattern of the first circuit; on the others nothing fades.
+    fn patterns(first: u64) -> [u64; 12] {
+        [first, 0, 0, 0, 0, 0, 0, 0, 0, 0, 0, 0]
     }
 
     // How many ends of a cable miss the frame of number n under a pattern.
     fn missed_at(pattern: u64, n: usize) -> Result<usize, CallFault> {
-        let mut patterns = [0; 12];
-        patterns[0] = pattern;
-        let mut fader = Fader::new(Cable::new(), patterns);
+        let mut fader = Fader::new(Cable::new(), patterns(pattern));
         for _ in 0..n {
-            let _ = fader.put(Circuit(0).end(0), &[7])?;
-            drain(&mut fader, Circuit(0));
+            let _ = fader.put(FIRST.end(0), &[7])?;
+            drain(&mut fader, FIRST);
         }
-        fader.put(Circuit(0).end(0), &[8])
+        fader.put(FIRST.end(0), &[8])
     }
 
     // By a table of a frame's number and how many miss it.
-    fn fades(rt: &impl Abort, pattern: u64, table: &[(usize, usize)]) -> Result<(), Fail> {
+    fn fades(rt: &impl Abort, pattern: u64, table: &[(usize, usize)]) {
         for (n, missed) in table.iter().copied() {
-            assert!(rt; missed_at(pattern, n)? == missed);
+            assert_eq!(rt; missed_at(pattern, n), Ok(missed));
         }
-        Ok(())
     }
 
     #[test]
-    fn frames_fade_by_their_bit(rt: HostRuntime) -> Result<(), Fail> {
-        fades(&rt, 0, &[(0, 0), (63, 0), (64, 0)])?;
-        fades(&rt, 1, &[(0, 1), (1, 0), (63, 0), (64, 1), (65, 0)])?;
-        fades(&rt, 0x8000_0000_0000_0000, &[(62, 0), (63, 1), (64, 0)])?;
-        fades(&rt, 0xFFFF_FFFF_FFFF_FFFF, &[(0, 1), (63, 1), (64, 1)])
+    fn frames_fade_by_their_bit(rt: HostRuntime) {
+        fades(&rt, 0, &[(0, 0), (63, 0), (64, 0)]);
+        fades(&rt, 1, &[(0, 1), (1, 0), (63, 0), (64, 1), (65, 0)]);
+        fades(&rt, 0x8000_0000_0000_0000, &[(62, 0), (63, 1), (64, 0)]);
+        fades(&rt, 0xFFFF_FFFF_FFFF_FFFF, &[(0, 1), (63, 1), (64, 1)]);
     }
 
     #[test]
     fn faded_frames_reach_nothing_and_refused_ones_are_not_counted(
         rt: HostRuntime,
     ) -> Result<(), Fail> {
-        let mut patterns = [0; 12];
-        patterns[0] = 5;
-        let mut fader = Fader::new(Segment::new(8)?, patterns);
-        puts(&rt, &mut fader, &[(0, 3, 1, 0, 7)]);
+        numbers(&rt);
+        let mut fader = Fader::new(Segment::new(8)?, patterns(5));
+        puts(&rt, &mut fader, &[(FIRST.end(3), 1, Ok(7))]);
         assert!(rt; is_quiet(fader.below()));
         puts(
             &rt,
             &mut fader,
             &[
-                (0, 3, 0, 4, 0),
-                (0, 8, 1, 8, 0),
-                (0, 3, 1, 0, 0),
-                (0, 3, 1, 18, 0),
-                (0, 3, 1, 18, 0),
+                (FIRST.end(3), 0, Err(SIZE)),
+                (FIRST.end(8), 1, Err(Unknown)),
+                (FIRST.end(3), 1, Ok(0)),
+                (FIRST.end(3), 1, Err(Waiting)),
+                (FIRST.end(3), 1, Err(Waiting)),
             ],
         );
         waiting(
             &rt,
             &fader,
-            0,
+            FIRST,
             &[true, true, true, false, true, true, true, true],
-        )?;
-        drain(&mut fader, Circuit(0));
-        puts(&rt, &mut fader, &[(0, 0, 1, 0, 7), (0, 0, 1, 0, 0)]);
+        );
+        drain(&mut fader, FIRST);
+        puts(
+            &rt,
+            &mut fader,
+            &[(FIRST.end(0), 1, Ok(7)), (FIRST.end(0), 1, Ok(0))],
+        );
         Ok(())
     }
 
     #[test]
     fn sizes_of_frames(rt: HostRuntime) -> Result<(), Fail> {
+        numbers(&rt);
         let mut plant = pair(Cable::new(), Segment::new(2)?)?;
-        for c in 0..2 {
+        for c in [Circuit(0), Circuit(1)] {
             puts(
                 &rt,
                 &mut plant,
                 &[
-                    (c, 0, 0, 4, 0),
-                    (c, 0, 276, 4, 0),
-                    (9, 9, 276, 4, 0),
-                    (c, 2, 1, 8, 0),
-                    (c, 0, 275, 0, 0),
-                    (c, 0, 1, 18, 0),
-                    (c, 1, 1, 0, 0),
+                    (c.end(0), 0, Err(SIZE)),
+                    (c.end(0), 276, Err(SIZE)),
+                    (Circuit(9).end(9), 276, Err(SIZE)),
+                    (c.end(2), 1, Err(Unknown)),
+                    (c.end(0), 275, Ok(0)),
+                    (c.end(0), 1, Err(Waiting)),
+                    (c.end(1), 1, Ok(0)),
                 ],
             );
             takes(
                 &rt,
                 &mut plant,
-                &[(9, 1, 8, 0), (c, 1, 0, 275), (c, 1, 0, 0), (c, 0, 0, 1)],
+                &[
+                    (Circuit(9).end(1), Err(Unknown)),
+                    (c.end(1), Ok(Some(275))),
+                    (c.end(1), Ok(None)),
+                    (c.end(0), Ok(Some(1))),
+                ],
             );
         }
         Ok(())
@@ -159,66 +177,74 @@ mod tests {
 
     #[test]
     fn sizes_of_buffers(rt: HostRuntime) -> Result<(), Fail> {
+        numbers(&rt);
         let mut cable = Cable::new();
         let mut small = [5; 274];
         let mut buffer = [5; 275];
-        let _ = cable.put(Circuit(0).end(0), &[1, 2])?;
-        match cable.take(Circuit(9).end(1), &mut small) {
-            Ok(_) => return Err(Fail::new("a buffer of 274 octets")),
-            Err(fault) => assert!(rt; fault.number() == 4),
-        }
-        assert!(rt; cable.take(Circuit(0).end(1), &mut buffer)?.unwrap_or(0) == 2);
-        assert!(rt; buffer[0] == 1 && buffer[1] == 2 && buffer[2] == 5 && buffer[274] == 5);
+        let _ = cable.put(FIRST.end(0), &[1, 2])?;
+        assert_eq!(rt; cable.take(Circuit(9).end(1), &mut small), Err(SIZE));
+        assert_eq!(rt; cable.take(FIRST.end(1), &mut buffer), Ok(Some(2)));
+        assert_eq!(rt; &buffer[..2], &[1, 2][..]);
+        assert_eq!(rt; &buffer[2..], &[5; 273][..]);
         Ok(())
     }
 
     #[test]
-    fn segments_have_2_to_8_ends(rt: HostRuntime) -> Result<(), Fail> {
-        for (n, refusal) in [(0, 8), (1, 8), (2, 0), (8, 0), (9, 8)] {
-            match Segment::new(n) {
-                Ok(segment) => assert!(rt; segment.ends(Circuit(0))? == n),
-                Err(fault) => assert!(rt; fault.number() == refusal),
-            }
+    fn segments_have_2_to_8_ends(rt: HostRuntime) {
+        numbers(&rt);
+        for (n, want) in [
+            (0, Err(Unknown)),
+            (1, Err(Unknown)),
+            (2, Ok(2)),
+            (8, Ok(8)),
+            (9, Err(Unknown)),
+        ] {
+            let ends = Segment::new(n).and_then(|segment| segment.ends(FIRST));
+            assert_eq!(rt; ends, want);
         }
-        Ok(())
     }
 
     // The kind and the number of ends of each circuit, by a table, and a put on each.
-    fn numbered<P: Plant>(
-        rt: &impl Abort,
-        plant: &mut P,
-        table: &[(Kind, usize)],
-    ) -> Result<(), Fail> {
-        assert!(rt; plant.circuits() == table.len());
+    fn circuits<P: Plant>(rt: &impl Abort, plant: &mut P, table: &[(Kind, usize)]) {
+        assert_eq!(rt; plant.circuits(), table.len());
         for (c, (kind, ends)) in table.iter().copied().enumerate() {
-            assert!(rt; plant.kind(Circuit(c))? == kind && plant.ends(Circuit(c))? == ends);
-            puts(rt, plant, &[(c, 1, 1, 0, 0), (c, 1, 2, 18, 0)]);
-            waiting(rt, plant, c, &[true, false])?;
+            let circuit = Circuit(c);
+            assert_eq!(rt; plant.kind(circuit), Ok(kind));
+            assert_eq!(rt; plant.ends(circuit), Ok(ends));
+            let end = circuit.end(1);
+            puts(rt, plant, &[(end, 1, Ok(0)), (end, 2, Err(Waiting))]);
+            waiting(rt, plant, circuit, &[true, false]);
         }
+        let absent = Circuit(table.len()).end(1);
         puts(
             rt,
             plant,
-            &[(table.len(), 1, 1, 8, 0), (table.len(), 1, 0, 4, 0)],
+            &[(absent, 1, Err(Unknown)), (absent, 0, Err(SIZE))],
         );
-        Ok(())
     }
 
     #[test]
     fn pairs_of_pairs_number_on(rt: HostRuntime) -> Result<(), Fail> {
+        numbers(&rt);
         let left = pair(Cable::new(), Segment::new(3)?)?;
         let right = pair(Segment::new(8)?, Cable::new())?;
         let mut plant = pair(left, right)?;
         let line = Kind::PointToPoint;
         let shared = Kind::Broadcast;
-        numbered(
+        circuits(
             &rt,
             &mut plant,
             &[(line, 2), (shared, 3), (shared, 8), (line, 2)],
-        )?;
+        );
         takes(
             &rt,
             &mut plant,
-            &[(2, 7, 0, 1), (3, 0, 0, 1), (3, 1, 0, 0), (2, 8, 8, 0)],
+            &[
+                (Circuit(2).end(7), Ok(Some(1))),
+                (Circuit(3).end(0), Ok(Some(1))),
+                (Circuit(3).end(1), Ok(None)),
+                (Circuit(2).end(8), Err(Unknown)),
+            ],
         );
         Ok(())
     }
@@ -226,19 +252,23 @@ mod tests {
     // That a plant of 12 circuits cannot be joined to another, and both come back as they were.
     fn is_full<P: Plant + Drop>(rt: &impl Abort, plant: P) -> Result<(), Fail> {
         let mut twelve = plant;
-        assert!(rt; twelve.circuits() == 12);
-        puts(rt, &mut twelve, &[(11, 0, 1, 0, 0), (12, 0, 1, 8, 0)]);
-        match Pair::new(twelve, Cable::new()) {
-            Ok(_) => Err(Fail::new("13 circuits")),
-            Err(back) => {
-                assert!(rt; back.refusal.number() == 11 && back.second.circuits() == 1);
-                waiting(rt, &back.first, 11, &[false, true])
-            }
-        }
+        assert_eq!(rt; twelve.circuits(), 12);
+        let (last, absent) = (Circuit(11), Circuit(12));
+        puts(
+            rt,
+            &mut twelve,
+            &[(last.end(0), 1, Ok(0)), (absent.end(0), 1, Err(Unknown))],
+        );
+        let back = Pair::new(twelve, Cable::new()).err().ok_or("13 circuits")?;
+        assert_eq!(rt; back.refusal, TooMany);
+        assert_eq!(rt; back.second.circuits(), 1);
+        waiting(rt, &back.first, last, &[false, true]);
+        Ok(())
     }
 
     #[test]
     fn plants_have_at_most_12_circuits(rt: HostRuntime) -> Result<(), Fail> {
+        numbers(&rt);
         is_full(&rt, pair(pair(four()?, four()?)?, four()?)?)
     }
 }

@@ -1,16 +1,15 @@
 // Forms, order and flags.
 use frame::Lsp;
-use octets::CheckOctets;
+use octets::{CheckOctets, LspId};
 use record::{Body, Form, Port, Ports, Recency, Record};
 use std::test::Fail;
 
-const ID: [u8; 8] = [0, 0, 0, 0, 0, 1, 0, 0];
+const ID: LspId = [0, 0, 0, 0, 0, 1, 0, 0];
 
 #[test]
 fn issues(rt: HostRuntime) -> Result<(), Fail> {
     let item = Record::issue(ID, 1, Body::empty()).ok_or("refused")?;
-    assert_eq!(rt; item.check().x, 0xF6);
-    assert_eq!(rt; item.check().y, 0x06);
+    assert_eq!(rt; item.check(), CheckOctets { x: 0xF6, y: 0x06 });
     assert_eq!(rt; item.lifetime(), 1200);
     assert_eq!(rt; item.flags(), 1);
     assert_eq!(rt; item.form(), Form::Live);
@@ -36,15 +35,23 @@ fn heard(rt: HostRuntime) {
         flags: 1,
         body: &[],
     };
-    let mut other = right;
     assert!(rt; Record::live(&right).is_some());
-    other.lifetime = 0;
-    assert!(rt; Record::live(&other).is_none());
-    other.lifetime = 1201;
-    assert!(rt; Record::live(&other).is_none());
-    other.lifetime = 1;
-    other.flags = 3;
-    assert!(rt; Record::live(&other).is_none());
+    let purged = Lsp {
+        lifetime: 0,
+        ..right
+    };
+    assert!(rt; Record::live(&purged).is_none());
+    let long = Lsp {
+        lifetime: 1201,
+        ..right
+    };
+    assert!(rt; Record::live(&long).is_none());
+    let flagged = Lsp {
+        lifetime: 1,
+        flags: 3,
+        ..right
+    };
+    assert!(rt; Record::live(&flagged).is_none());
 }
 
 #[test]
