@@ -79,6 +79,7 @@ impl From<FrameFault> for CallFault {
     }
 }
 
+// Both enums have a number and a place as methods of their own: nothing is generic over refusals, so no trait.
 impl FrameFault {
     // The refusal's number, 1 to 7.
     pub fn number(self) -> u8

@@ -1,4 +1,4 @@
-// Numbers and identifiers at an offset of a frame.
+// Numbers and identifiers at an offset of a frame. Offsets, and no cursor: the format gives each part its offset.
 ghost use Rattle.std.specs.Prelude.{◌≡◌, ◌+◌, ◌≤◌, length};
 ghost use Rattle.octets.specs.Octets.{part, field};
 ghost use Rattle.frame.specs.Reading.{check_at};

@@ -24,7 +24,7 @@ fn check_fixed(f: &[u8]) -> Result<(), FrameFault>
     Ok(())
 }
 
-// Whether the length is absent or wrong, the kind's header having this size.
+// Whether the length is absent or wrong, the kind's header having this size. A bool: the refusal stands where it is asked.
 fn length_is_off(f: &[u8], size: usize) -> bool
     ensures { result ≡ length_off size f.now }
 {

@@ -20,6 +20,7 @@ fn check_is_wrong(f: &[u8]) -> bool
 }
 
 // What the LSP says, or its first fault. Check octets are looked at only where it is live.
+// It takes the whole frame, of which the definitions speak; `read_header` ensures that the header is there.
 pub(crate) fn read_lsp(f: &[u8]) -> Result<Lsp<'_>, FrameFault>
     requires { 27 ≤ length f.now }
     ensures { MatchResult result (λ m. (first_fault (lsp_faults f.now) ≡ None) × (lsp_said m ≡ lsp_in f.now)) (λ e. first_fault (lsp_faults f.now) ≡ Some e) }

@@ -1,7 +1,8 @@
 // What frames say.
 use octets::{CheckOctets, IdRange, LspId, SourceId};
 
-// An LSP. Lifetime 0 says that the record is purged.
+// An LSP. Lifetime 0 says that the record is purged: the format's own number, since what is read is written again octet for octet.
+// It has an entry's fields as its own, not as one: they are read and written as an entry by one function each, and named everywhere else.
 #[derive(Clone, Copy, PartialEq, Eq, Debug)]
 pub struct Lsp<'a> {
     pub lifetime: u16,
@@ -37,6 +38,7 @@ pub struct Csnp<'a> {
     pub entries: Entries<'a>,
 }
 
+// A type of its own beside `Csnp`: a PSNP has no range.
 #[derive(Clone, Copy, PartialEq, Eq, Debug)]
 pub struct Psnp<'a> {
     pub source: SourceId,

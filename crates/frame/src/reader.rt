@@ -48,7 +48,7 @@ impl<'a> FrameReader<'a> {
     }
 }
 
-// The part that a message hands out, and where it stands in its frame.
+// The part that a message hands out, and where it stands in its frame: one place for each kind.
 fn content_of(m: Message<'_>) -> (usize, &[u8])
     ensures { (result.0 ≡ content_place (message_said m.entry)) × (result.1.now ≡ content_octets m.entry) }
 {

@@ -47,7 +47,7 @@ fn read_entries(f: &[u8], size: u16) -> Result<Entries<'_>, FrameFault>
     })
 }
 
-// Whether an identifier is not over the last one, or out of the range.
+// Whether an identifier is not over the last one, or out of the range. A bool: its caller has the place that the refusal needs.
 // A match, since what a closure that calls a function returns is not told.
 fn is_out(id: LspId, range: IdRange, last: Option<LspId>) -> bool
     requires { value range.start ≤ floor (value range.start) last }

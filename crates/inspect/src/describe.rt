@@ -62,6 +62,7 @@ fn describe_field<W: Write>(f: &mut Formatter<W>, code: u8, value: &[u8]) -> fmt
     writeln!(f)
 }
 
+// Its first line differs from a PSNP's in its range; what follows is one function.
 fn describe_csnp<W: Write>(f: &mut Formatter<W>, m: &Csnp<'_>, back: &str) -> fmt::Result {
     let source = ShownSource(m.source);
     let start = ShownId(m.range.start);

@@ -52,7 +52,7 @@ impl Sums {
     }
 }
 
-// Both sums, running on over a part and reduced at each octet.
+// Both sums, running on over a part and reduced at each octet. Two numbers of 16 bits, which `over` cuts once.
 fn run_on(from: Sums, part: &[u8]) -> (u16, u16)
     ensures plain { result.0 ≡ (sums_then from part.now).c0 }
     ensures weighted { result.1 ≡ (sums_then from part.now).c1 }

@@ -38,6 +38,7 @@ pub fn may_put<P: Plant>(plant: &P, end: End, frame: &[u8]) -> Result<usize, Cal
     ensures { MatchResult result (λ n. Lost (P.air plant.now) end.circuit.0 end.number frame.now n) (λ x. put_refusal (P.air plant.now) end.circuit.0 end.number frame.now ≡ Some x) }
 {
     FrameOctets::new(frame)?;
+    // One test for an unknown circuit and an unknown end: with `ends(..)?` the proof takes the circuit's refusal apart again.
     let ends = count_ends(plant, end.circuit);
     if end.number >= ends {
         return Err(CallFault::Unknown);
@@ -73,6 +74,7 @@ pub fn is_quiet<P: Plant>(plant: &P) -> bool
 }
 
 // Has every end of a circuit take, and lets go what was taken: nothing waits there then, and no other circuit changes.
+// Who wants to see what was taken writes the loop: a closure for it would be no shorter.
 pub fn drain<P: Plant>(plant: &mut P, circuit: Circuit)
     ensures { Drains (P.air plant.old) (P.air plant.new) circuit.0 }
 {

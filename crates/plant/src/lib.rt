@@ -77,6 +77,7 @@ pub trait Plant {
         ensures puts { Puts air put_over self.old self.new end.circuit.0 end.number frame.now result };
 
     // Moves the frame that waits at an end to the buffer's front and answers its length, or says that none waits.
+    // The caller's buffer is filled and a length answered, as every call that hands octets out does.
     fn take(&mut self, end: End, buffer: &mut [u8]) -> Result<Option<usize>, CallFault>
         ensures takes { Takes air take_over self.old self.new end.circuit.0 end.number buffer.old buffer.new result };
 

@@ -19,7 +19,7 @@ fn span() -> Result<Fader<Pair<Cable, Segment>>, CallFault> {
     Ok(Fader::new(Pair::new(Cable::new(), segment)?, patterns))
 }
 
-// Prints what an end does with some octets.
+// Prints what an end does with some octets. The runtime and the plant are passed on: a struct of borrows for a few short functions is no shorter.
 fn tell(rt: &HostRuntime, end: End, word: &str, octets: &[u8]) -> io::Result<()> {
     print!(rt; "circuit {} end {} {word}", end.circuit.0, end.number)?;
     for octet in octets {
@@ -103,6 +103,7 @@ fn run<P: Plant>(rt: &HostRuntime, plant: &mut P) -> io::Result<()> {
     })
 }
 
+// What is printed in place of a plant is part of the program's text, so the refusal is not.
 fn main(rt: HostRuntime) -> io::Result<()> {
     match span() {
         Ok(plant) => {

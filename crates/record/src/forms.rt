@@ -73,6 +73,7 @@ impl Record {
         }
     }
 
+    // Apart from `write`, since answers by hand stand at private functions.
     fn written(&self, buf: &mut [u8]) -> Result<usize, FrameFault>
         ensures { WritesRecord self.now buf.old buf.new result }
     {

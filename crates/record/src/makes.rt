@@ -31,6 +31,7 @@ fn unflagged(id: LspId, state: State) -> Record
 
 impl Record {
     // The live record of an LSP, unless it is not live or a frame could not say it.
+    // An Option: who calls has read the LSP, and the reader tells the cause.
     pub fn live(m: &Lsp<'_>) -> Option<Record>
         ensures { MatchOption result (LspFits (lsp_said m.now) → 1 ≤ m.now.lifetime → ⊥) (λ x. (1 ≤ m.now.lifetime) × Made (lsp_said m.now) m.now.id x) }
     {
@@ -52,6 +53,7 @@ impl Record {
     }
 
     // The record of an issue, unless its number is 0: lifetime 1,200, flag octet 01, computed check octets.
+    // A u32 and an Option, as for a purge: a NonZeroU32 would ask more of the caller.
     pub fn issue(id: LspId, number: u32, body: Body) -> Option<Record>
         ensures { MatchOption result (number ≡ 0) (λ x. (1 ≤ number) × Made (issued id number body) id x) }
     {

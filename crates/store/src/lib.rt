@@ -20,6 +20,7 @@ pub use requests::{Reply, Request};
 pub use table::Table;
 
 // A list of records for each of eight routers: at most 32, their identifiers rising.
+// A router is a plain number, since every number has its answer: one past the eight is refused.
 pub trait Store {
     ghost lists: { Self → Lists };
 

@@ -21,7 +21,7 @@ fn order_of(item: &Record, id: LspId) -> Ordering
     order(item.id(), id)
 }
 
-// At most 32 records, by rising identifier.
+// At most 32 records, by rising identifier. No model: the laws of `Store` read off each row that its records rise.
 #[derive(Drop)]
 pub(crate) struct Row {
     records: ArrayVec<Record, 32>,

@@ -14,7 +14,7 @@ fn lsp_id(system: u8) -> [u8; 8] {
     [0, 0, 0, 0, 0, system, 0, 0]
 }
 
-// Asks a store, and prints what it answered.
+// Asks a store, and prints what it answered. The runtime, the store and the router are passed on, as in a few lines they may be.
 fn put<S: Store>(
     rt: &impl Print,
     store: &mut S,
@@ -37,7 +37,7 @@ fn list<S: Store>(rt: &impl Print, store: &S, router: usize) -> io::Result<()> {
     Ok(())
 }
 
-// One record of each form, replaced and removed.
+// One record of each form, replaced and removed. Their numbers and fields are right, so what would be refused is passed over.
 fn few<S: Store>(rt: &impl Print, store: &mut S) -> io::Result<()> {
     put(rt, store, 0, Request::Count)?;
     put(rt, store, 0, Request::Nth(0))?;

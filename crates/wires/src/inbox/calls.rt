@@ -18,6 +18,7 @@ impl Waiting {
     }
 
     // Moves the frame to the buffer's front, and answers its length.
+    // The room is required here and above: a loan of the front as an array would need a clause on what it leaves.
     fn move_to(self, buffer: &mut [u8]) -> usize
         requires { 275 ≤ length buffer.old }
         ensures answer { result ≡ length self.octets.items }
@@ -29,6 +30,7 @@ impl Waiting {
     }
 }
 
+// Functions of inboxes under the wire's methods: answers by hand stand at private functions. `held` says of each what waits there.
 // Whether a frame waits in an inbox other than that of one end.
 pub(crate) fn others_wait(inboxes: &[Inbox], end: usize) -> bool
     ensures { result ≡ waits_elsewhere (map held inboxes.now) end (length inboxes.now) }
