@@ -79,7 +79,7 @@ impl From<FrameFault> for CallFault {
     }
 }
 
-// Both enums have a number and a place as methods of their own: nothing is generic over refusals, so no trait.
+// Both enums have a number and a place as methods of their own: a trait would have two impls, and no code that is generic over it.
 impl FrameFault {
     // The refusal's number, 1 to 7.
     pub fn number(self) -> u8
@@ -174,13 +174,18 @@ impl fmt::Display for FrameFault {
     }
 }
 
+// A frame's refusal is shown as such.
 impl fmt::Display for CallFault {
     ghost output = { λ e. Some (refusal_text (call_number e) (call_place e)) };
 
     fn fmt<W: fmt::Write>(&self, f: &mut fmt::Formatter<W>) -> fmt::Result {
-        let number = self.number();
-        let place = self.place();
-        Refused { number, place }.fmt(f)
+        match self {
+            CallFault::Frame(fault) => fault.fmt(f),
+            _ => {
+                let number = self.number();
+                Refused { number, place: 0 }.fmt(f)
+            }
+        }
     }
 }
 

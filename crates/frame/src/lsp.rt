@@ -10,7 +10,7 @@ use crate::message::{Entry, Lsp};
 use fault::FrameFault;
 use octets::{check_body, is_right};
 
-// Whether a live LSP's check octets are wrong, which stand at places 13 and 14 of the part that they cover.
+// A bool, since the refusal stands where it is asked: whether a live LSP's check octets are wrong, which stand at places 13 and 14 of the part that they cover.
 fn check_is_wrong(f: &[u8]) -> bool
     requires { 12 ≤ length f.now }
     ensures { result ≡ check_wrong f.now }

@@ -12,7 +12,7 @@ use crate::message::{Csnp, Entries, Psnp};
 use fault::FrameFault;
 use octets::{IdRange, LspId, before, read_field};
 
-// Whether a field of this code, with this value and this rest behind it, holds 1 to 15 entries and is the last.
+// A bool, since the refusal stands where it is asked: whether a field of this code, with this value and this rest behind it, holds 1 to 15 entries and is the last.
 fn lists_entries(code: u8, value: &[u8], rest: &[u8]) -> bool
     ensures { result ≡ field_lists code value.now rest.now }
 {
@@ -64,6 +64,7 @@ fn is_out(id: LspId, range: IdRange, last: Option<LspId>) -> bool
 fn check_entries(entries: Entries<'_>, range: IdRange) -> Result<(), FrameFault>
     ensures { result ≡ unless (first_fault (entries_faults entries.entry.place (value range.start) (value range.end) (entries_in entries.entry.octets.now))) tt }
 {
+    // The place is carried along: a refusal tells it.
     let mut place = usize::from(entries.place);
     let mut last = None;
     for entry in entries {
@@ -80,7 +81,7 @@ fn check_entries(entries: Entries<'_>, range: IdRange) -> Result<(), FrameFault>
     Ok(())
 }
 
-// What the CSNP says, or its first fault.
+// What the CSNP says, or its first fault. It takes the whole frame, as the reader of LSPs does.
 pub(crate) fn read_csnp(f: &[u8]) -> Result<Csnp<'_>, FrameFault>
     requires { 33 ≤ length f.now }
     ensures { MatchResult result (λ m. (first_fault (csnp_faults f.now) ≡ None) × (csnp_said m ≡ csnp_in f.now) × OwnParts f.now (SaysCsnp m)) (λ e. first_fault (csnp_faults f.now) ≡ Some e) }

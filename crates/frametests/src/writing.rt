@@ -28,7 +28,7 @@ static LIVES: [(u16, u32, &[u8]); 4] = [
 ];
 
 fn check_trip(rt: &impl Abort, lifetime: u16, number: u32, body: &[u8]) -> Result<(), Fail> {
-    let mut m = lsp(lifetime, number, ONES, body);
+    let mut m = lsp(lifetime, number, CheckOctets::default(), body);
     m.check = computed_check(&m);
     let mut buf = [0xaa; 275];
     let n = write_lsp(&m, &mut buf)?;

@@ -1,10 +1,15 @@
 -- Numbers in octets: what is written reads back, and the other way round.
-use Rattle.std.proofs.Common.{◌≡◌, ℕ, zero, suc, ◌+◌, ◌*◌, ◌/◌, ◌%◌, ◌^◌, ◌<◌, ◌≤◌, List, [], ◌∷◌, ◌++◌, length, sym, refl, ap, ◌∙◌, append_assoc, append-nil, mul-le-mul_right, arith}
+use Rattle.std.proofs.Common.{◌≡◌, ℕ, zero, suc, ◌+◌, ◌*◌, ◌/◌, ◌%◌, ◌^◌, ◌<◌, ◌≤◌, List, [], ◌∷◌, ◌++◌, length, sym, refl, ap, ◌∙◌, append_assoc, append-nil, mul-le-mul_right, arith, length-append}
+use Rattle.std.proofs.ByRecursion.{All-push}
 use Rattle.octets.specs.Octets.{Octets, onward, value, octets}
 
 pub onward-append : (a : ℕ) (xs ys : List ℕ) → onward a (xs ++ ys) ≡ onward (onward a xs) ys
 onward-append a [] ys = refl
 onward-append a (x ∷ xs) ys = onward-append (a * 256 + x) xs ys
+
+pub length-octets : (n v : ℕ) → length (octets n v) ≡ n
+length-octets zero v = refl
+length-octets (suc n) v = rw length-append (omega (arith, length-octets n (v / 256)))
 
 -- a number that fits reads back
 pub value-octets : (n v : ℕ) → v < 256 ^ n → value (octets n v) ≡ v
@@ -62,3 +67,8 @@ onward_lt (x ∷ xs) (y ∷ ys) p q h e b =
 pub value_same : (xs ys : List ℕ) → length xs ≡ length ys → Octets xs → Octets ys → value xs ≡ value ys → xs ≡ ys
 value_same xs ys e h k v =
     sym (octets-value xs (length xs) refl h) ∙ ap (octets (length xs)) v ∙ octets-value ys (length xs) (sym e) k
+
+-- octets that are written are octets
+pub octets-octets : (n v : ℕ) → Octets (octets n v)
+octets-octets zero v = tt
+octets-octets (suc n) v = All-push (λ (x : ℕ). x < 256) (octets n (v / 256)) (v % 256) (octets-octets n (v / 256)) (omega arith)

@@ -19,7 +19,7 @@ pub fn check_field(part: &[u8], place: usize) -> Result<(), FrameFault>
     Ok(())
 }
 
-// The code and the value of the field at the front of a part that stands at a place, and what remains. It is read after a check of its own.
+// The code and the value of the field at the front of a part that stands at a place, and what remains. It is read after a check of its own: a rule of the project.
 // The place is no part of what it answers: behind a field it would have to be counted on, past the end of its type.
 pub fn read_field(part: &[u8], place: usize) -> Result<(u8, &[u8], &[u8]), FrameFault>
     ensures { MatchResult result (λ x. Front part.now x.0 x.1.now x.2.now) (λ e. (stands part.now ≡ false) × (e ≡ Field place)) }

@@ -6,7 +6,7 @@ ghost use Rattle.octets.specs.Ranges.{empty, in_range};
 
 use std::cmp::Ordering;
 
-// A system's identifier. Identifiers are arrays by value, and aliases, not types of their own.
+// A system's identifier. Identifiers are arrays by value, not types of their own: a rule of the project.
 pub type SystemId = [u8; 6];
 
 // A system's identifier and the octet of a pseudonode.

@@ -36,5 +36,8 @@ module _ (a b : Air) (h : shape b ≡ shape a) where
       sym (length-map b (λ (l : Line). (l.kind, length l.ends)))
       ∙ (ap length h ∙ length-map a (λ (l : Line). (l.kind, length l.ends)))
 
+  pub same_kind : (c : ℕ) → (line b c).kind ≡ (line a c).kind
+  same_kind c = ap (λ (s : Kind × ℕ). s.0) (at_one c)
+
   pub same_ends : (c : ℕ) → ends_of b c ≡ ends_of a c
   same_ends c = ap (λ (s : Kind × ℕ). s.1) (at_one c)

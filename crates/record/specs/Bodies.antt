@@ -1,5 +1,5 @@
 -- What a body and a record's octets say.
-use Rattle.std.specs.Prelude.{ℕ, List, take, replicate}
+use Rattle.std.specs.Prelude.{ℕ, List, take, replicate, refl}
 use Rattle.std.proofs.Common.{lit≤}
 use Rattle.octets.specs.declared.checks.CheckOctets.{CheckOctets}
 use Rattle.octets.specs.Octets.{value}
@@ -13,7 +13,7 @@ body_octets b = take b.len b.octets
 
 -- the body of no octets
 abbrev pub empty_body : Body
-empty_body = record { octets = replicate 100 0; len = 0; few = lit≤ tt; fields = no_fields }
+empty_body = record { octets = replicate 100 0; len = 0; room = refl; few = lit≤ tt; fields = no_fields }
 
 -- what these say as an LSP
 abbrev pub lsp_by : ℕ → List ℕ → ℕ → CheckOctets → ℕ → List ℕ → LspPdu

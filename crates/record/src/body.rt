@@ -9,6 +9,7 @@ ghost use Rattle.record.specs.Fields.{whole_fields};
 pub struct Body {
     pub(crate) octets: [u8; 100],
     pub(crate) len: usize,
+    ghost room: { length octets ≡ 100 },
     ghost few: { len ≤ 100 },
     ghost fields: { whole_fields (take len octets) ≡ true },
 }

@@ -1,5 +1,6 @@
 // A record's flags: SRM says on which ports it is to be sent, SSN on which it is to be reported.
 // Each has methods of its own, one line over `Ports`: SRM has a rule of its own, and a flag as a parameter would make each contract both.
+// The contracts speak of the whole record, since all but the flags stays.
 ghost use Rattle.std.specs.Prelude.{◌≡◌, nat_eq};
 ghost use Rattle.record.specs.Ports.{has_port};
 ghost use Rattle.record.specs.Flags.{srm_at, ssn_at, SetsSrm, ClearsSrm, SetsSsn, ClearsSsn};

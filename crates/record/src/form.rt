@@ -27,7 +27,7 @@ impl fmt::Display for Form {
     }
 }
 
-// How what was heard stands to a record that is held.
+// How what was heard stands to a record that is held. The standard's words; an `Ordering` would not say of what.
 #[derive(Clone, Copy, PartialEq, Eq, Debug)]
 pub enum Recency {
     Newer,

@@ -80,7 +80,7 @@ impl Record {
         write_lsp(&self.lsp(), buf)
     }
 
-    // Writes it as an LSP into the buffer's front. Of any record but a placeholder only a buffer under 275 octets is refused.
+    // Writes it as an LSP into the caller's buffer, at its front, and answers the length, as every call that hands octets out. Of any record but a placeholder only a buffer under 275 octets is refused.
     pub fn write(&self, buf: &mut [u8]) -> Result<usize, FrameFault>
         ensures { WritesRecord self.now buf.old buf.new result }
     {

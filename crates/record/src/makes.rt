@@ -31,7 +31,7 @@ fn unflagged(id: LspId, state: State) -> Record
 
 impl Record {
     // The live record of an LSP, unless it is not live or a frame could not say it.
-    // An Option: who calls has read the LSP, and the reader tells the cause.
+    // An Option: not to be live is no refusal, and an LSP that was read has none of the other causes.
     pub fn live(m: &Lsp<'_>) -> Option<Record>
         ensures { MatchOption result (LspFits (lsp_said m.now) → 1 ≤ m.now.lifetime → ⊥) (λ x. (1 ≤ m.now.lifetime) × Made (lsp_said m.now) m.now.id x) }
     {

@@ -7,7 +7,8 @@ use Rattle.plant.specs.declared.Kind.TheVariants.{PointToPoint}
 use Rattle.plant.specs.Air.{Air, Frame, Line, Lawful, EndsFit, line, ends_of, waiting, shape}
 use Rattle.plant.specs.Calls.{Put, Take, PutOver, TakeOver}
 use Rattle.plant.proofs.Lines.{same_circuits}
-use Rattle.spans.specs.Pairs.{joined, PairPut, PairTake}
+use Rattle.std.proofs.lemmas.Bool.Decides.{nat_tests}
+use Rattle.spans.specs.Pairs.{joined, PairPut, PairTake, AtFirst, AtSecond, AtNeither}
 
 -- the circuit that is not there
 abbrev absent : Line
@@ -40,8 +41,29 @@ module _ (a b : Air) where
     pub line_neither : (c : ℕ) → 12 ≤ c → line (joined a b) c ≡ absent
     line_neither c h = get_or_past (joined a b) c absent (omega (arith, joined_few))
 
+    pub at_neither : (c : ℕ) → 12 ≤ c → AtNeither a b c
+    at_neither c h = record {
+      above = omega (arith, joined_few);
+      gone = ap (λ (l : Line). length l.ends) (line_neither c h);
+    }
+
+  pub at_first : (c : ℕ) → c < length a → AtFirst a b c
+  at_first c h = record { below = h; there = omega (arith, length-joined); same = line_first c h }
+
+  pub at_second : (c d : ℕ) → length a ≤ c → c < 12 → d ≡ c - length a → AtSecond a b c d
+  at_second c d h l e = record {
+    above = h;
+    few = l;
+    number = e;
+    known = let n = length-joined in grind (arith, nat_tests);
+    same = line_second c h l ∙ ap (line b) (sym e);
+  }
+
   pub joined_all : length a + length b ≤ 12 → joined a b ≡ a ++ b
   joined_all h = ap (λ x. a ++ x) (take_all (12 - length a) b (omega arith))
+
+  pub joined_circuits : length a ≤ 12 → 12 < length a + length b → 12 ≡ length (joined a b)
+  joined_circuits l h = omega (arith, length-joined)
 
   pub joined_lawful : Lawful a → Lawful b → Lawful (joined a b)
   joined_lawful p q = record {

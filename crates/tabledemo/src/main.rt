@@ -1,8 +1,8 @@
 // Fills, replaces, removes and lists records in a store, and prints what each call answered.
 #![tactic(auto)]
 
+use anyhow::{Result, anyhow};
 use record::{Body, Record};
-use std::io;
 use store::{Request, Store, Table, ask};
 
 mod text;
@@ -15,45 +15,40 @@ fn lsp_id(system: u8) -> [u8; 8] {
 }
 
 // Asks a store, and prints what it answered. The runtime, the store and the router are passed on, as in a few lines they may be.
-fn put<S: Store>(
-    rt: &impl Print,
-    store: &mut S,
-    router: usize,
-    request: Request,
-) -> io::Result<()> {
+fn put<S: Store>(rt: &impl Print, store: &mut S, router: usize, request: Request) -> Result<()> {
     let answer = ShownAnswer(ask(store, router, request));
     let request = ShownRequest(request);
-    println!(rt; "router {router} {request}: {answer}")
+    println!(rt; "router {router} {request}: {answer}")?;
+    Ok(())
 }
 
 // Prints a router's records.
-fn list<S: Store>(rt: &impl Print, store: &S, router: usize) -> io::Result<()> {
+fn list<S: Store>(rt: &impl Print, store: &S, router: usize) -> Result<()> {
     println!(rt; "router {router} lists")?;
-    for n in 0..store.count(router).unwrap_or(0) {
-        if let Ok(Some(item)) = store.nth(router, n) {
+    for n in 0..store.count(router)? {
+        if let Some(item) = store.nth(router, n)? {
             println!(rt; "  {item}")?;
         }
     }
     Ok(())
 }
 
-// One record of each form, replaced and removed. Their numbers and fields are right, so what would be refused is passed over.
-fn few<S: Store>(rt: &impl Print, store: &mut S) -> io::Result<()> {
+// An issue of a system.
+fn issue(system: u8, number: u32, body: Body) -> Result<Record> {
+    Record::issue(lsp_id(system), number, body).ok_or(anyhow!("no issue has number 0"))
+}
+
+// One record of each form, replaced and removed.
+fn few<S: Store>(rt: &impl Print, store: &mut S) -> Result<()> {
     put(rt, store, 0, Request::Count)?;
     put(rt, store, 0, Request::Nth(0))?;
-    if let Some(item) = Record::issue(lsp_id(2), 1, Body::empty()) {
-        put(rt, store, 0, Request::Set(item))?;
-    }
-    if let Some(item) = Record::purge(lsp_id(3), 7, 1) {
-        put(rt, store, 0, Request::Set(item))?;
-    }
+    put(rt, store, 0, Request::Set(issue(2, 1, Body::empty())?))?;
+    let purge = Record::purge(lsp_id(3), 7, 1).ok_or(anyhow!("no purge has number 0"))?;
+    put(rt, store, 0, Request::Set(purge))?;
     put(rt, store, 0, Request::Set(Record::placeholder(lsp_id(1))))?;
     list(rt, store, 0)?;
-    if let Ok(body) = Body::new(&[0x81, 1, 0xCC])
-        && let Some(item) = Record::issue(lsp_id(2), 2, body)
-    {
-        put(rt, store, 0, Request::Set(item))?;
-    }
+    let body = Body::new(&[0x81, 1, 0xCC])?;
+    put(rt, store, 0, Request::Set(issue(2, 2, body)?))?;
     put(rt, store, 0, Request::Find(lsp_id(2)))?;
     put(rt, store, 0, Request::Find(lsp_id(4)))?;
     put(rt, store, 0, Request::Remove(lsp_id(1)))?;
@@ -62,7 +57,7 @@ fn few<S: Store>(rt: &impl Print, store: &mut S) -> io::Result<()> {
 }
 
 // All 32 places of another router, and one more.
-fn many<S: Store>(rt: &impl Print, store: &mut S) -> io::Result<()> {
+fn many<S: Store>(rt: &impl Print, store: &mut S) -> Result<()> {
     for system in 0..32u8 {
         put(
             rt,
@@ -83,7 +78,7 @@ fn many<S: Store>(rt: &impl Print, store: &mut S) -> io::Result<()> {
 }
 
 // No such router.
-fn none<S: Store>(rt: &impl Print, store: &mut S) -> io::Result<()> {
+fn none<S: Store>(rt: &impl Print, store: &mut S) -> Result<()> {
     put(rt, store, 8, Request::Set(Record::placeholder(lsp_id(1))))?;
     put(rt, store, 8, Request::Remove(lsp_id(1)))?;
     put(rt, store, 8, Request::Find(lsp_id(1)))?;
@@ -91,13 +86,13 @@ fn none<S: Store>(rt: &impl Print, store: &mut S) -> io::Result<()> {
     put(rt, store, 8, Request::Nth(0))
 }
 
-fn demo<S: Store>(rt: &impl Print, store: &mut S) -> io::Result<()> {
+fn demo<S: Store>(rt: &impl Print, store: &mut S) -> Result<()> {
     few(rt, store)?;
     many(rt, store)?;
     none(rt, store)
 }
 
-fn main(rt: HostRuntime) -> io::Result<()> {
+fn main(rt: HostRuntime) -> Result<()> {
     let mut table = Table::new();
     demo(&rt, &mut table)
 }

@@ -1,4 +1,5 @@
 -- A closed summary can be said, and its octets are those of its parts.
+use Rattle.std.specs.Prelude.{◌&&◌, nat_le}
 use Rattle.std.proofs.Common.{◌≡◌, ℕ, ◌+◌, ◌^◌, ◌<◌, ◌≤◌, true, not, List, [], ◌∷◌, ◌++◌, map, length, sym, refl, ap, ◌∙◌, arith}
 use Rattle.std.proofs.lemmas.Bool.{and_parts}
 use Rattle.std.proofs.lemmas.Bool.Decides.{nat_tests}
@@ -70,7 +71,8 @@ pub summary_fits :
     → in_scope s es ≡ true
     → Fits (said_in s source (map entry_said es))
 summary_fits (Csnp r) source es k few h c =
-    let a = and_parts (not (empty r)) (inside r es) c in
+    let a = and_parts (not (empty r)) (nat_le (value r.end) last_id && inside r es) c in
+    let b = and_parts (nat_le (value r.end) last_id) (inside r es) a.1 in
     record {
       source = k.0;
       start = k.1;
@@ -78,7 +80,7 @@ summary_fits (Csnp r) source es k few h c =
       range = grind (arith, nat_tests, a.0);
       entries = entries_fit 0 es h;
       few = omega (arith, length-map es entry_said);
-      rising = range_rises r es h a.1;
+      rising = range_rises r es h b.1;
     }
 summary_fits Psnp source es k few h c =
     record {

@@ -41,7 +41,7 @@ range_fault es r = fails (empty r || not (inside r es)) Summary
 
 -- what a summary is closed with suits its entries
 abbrev pub in_scope : Scope → List Entry → Bool
-in_scope (Csnp r) es = not (empty r) && inside r es
+in_scope (Csnp r) es = not (empty r) && (nat_le (value r.end) last_id && inside r es)
 in_scope Psnp es = true
 
 -- the kind of frame that covers it

@@ -47,7 +47,7 @@ impl ClosedSummary {
         frame
     }
 
-    // Writes the summary into the buffer's front, and answers its length.
+    // Writes the summary into the caller's buffer, at its front, and answers its length, as every call that hands octets out.
     pub fn write(&self, buf: &mut [u8]) -> Result<usize, FrameFault>
         ensures { Writes (summary_said self.now) buf.old buf.new result }
     {

@@ -14,16 +14,25 @@ use fault::FrameFault;
 use frame::Entry;
 use octets::{IdRange, LspId, SourceId, before};
 
+impl Listing {
+    // No entry yet.
+    fn new(source: SourceId) -> Listing
+        ensures { (result.source ≡ source) × (result.entries.items ≡ []) }
+    {
+        Listing {
+            source,
+            entries: ArrayVec::new(),
+        }
+    }
+}
+
 impl OpenSummary {
     // A summary of this source with no entry yet.
     pub fn begin(source: SourceId) -> OpenSummary
         ensures { (result.listing.source ≡ source) × (listed result ≡ []) }
     {
         OpenSummary {
-            listing: Listing {
-                source,
-                entries: ArrayVec::new(),
-            },
+            listing: Listing::new(source),
         }
     }
 
@@ -57,7 +66,8 @@ impl OpenSummary {
 
     // Refuses a range that ends before it starts or that an entry is not in; the summary stays as it is.
     pub fn check_range(&self, range: IdRange) -> Result<(), FrameFault>
-        ensures { result ≡ unless (range_fault (listed self.now) range) tt }
+        ensures is { result ≡ unless (range_fault (listed self.now) range) tt }
+        ensures under { value range.end < 256 ^ 8 }
     {
         if range.is_empty() || !are_inside(&self.listing.entries, range) {
             return Err(FrameFault::Summary);

@@ -1,5 +1,6 @@
 // Summaries as they are made.
-ghost use Rattle.std.specs.Prelude.{◌≡◌, true};
+ghost use Rattle.std.specs.Prelude.{◌≡◌, ◌^◌, ◌<◌, ◌≤◌, true, length};
+ghost use Rattle.octets.specs.Octets.{value};
 ghost use Rattle.writer.specs.Listing.{rises, in_scope};
 
 use crate::scope::Scope;
@@ -13,6 +14,9 @@ use octets::SourceId;
 pub(crate) struct Listing {
     pub(crate) source: SourceId,
     pub(crate) entries: ArrayVec<Entry, 15>,
+    // Two bounds that the types have too, so that they can be told of any listing.
+    ghost sized: { value source < 256 ^ 7 },
+    ghost few: { length entries.items ≤ 15 },
     ghost right: { rises 0 entries.items ≡ true },
 }
 

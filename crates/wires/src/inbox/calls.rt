@@ -13,7 +13,7 @@ impl Waiting {
         ensures { result.octets.items ≡ frame.entry.octets.now }
     {
         let mut octets = ArrayVec::new();
-        let _ = octets.try_extend_from_slice(frame.octets());
+        octets.try_extend_from_slice(frame.octets()).unwrap();
         Waiting { octets }
     }
 
@@ -30,7 +30,7 @@ impl Waiting {
     }
 }
 
-// Functions of inboxes under the wire's methods: answers by hand stand at private functions. `held` says of each what waits there.
+// The work over lists of inboxes, which the wire's methods call: a chain proves over a slice, and may not over a field. `held` says what waits.
 // Whether a frame waits in an inbox other than that of one end.
 pub(crate) fn others_wait(inboxes: &[Inbox], end: usize) -> bool
     ensures { result ≡ waits_elsewhere (map held inboxes.now) end (length inboxes.now) }
