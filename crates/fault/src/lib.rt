@@ -149,7 +149,7 @@ impl CallFault {
 }
 
 // A refusal that is to be shown, as `refused 4 at 8`.
-#[derive(Clone, Copy)]
+#[derive(Clone, Copy, PartialEq, Eq, Debug)]
 pub struct Refused {
     pub number: u8,
     pub place: usize,

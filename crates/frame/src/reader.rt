@@ -48,7 +48,7 @@ impl<'a> FrameReader<'a> {
     }
 }
 
-// The part that a message hands out, and where it stands in its frame: one place for each kind, which its clause and its edit speak of.
+// The part that a message hands out, and where it stands in its frame. The places are the format's own: from a header's size they would be sums.
 fn content_of(m: Message<'_>) -> (usize, &[u8])
     ensures { (result.0 ≡ content_place (message_said m.entry)) × (result.1.now ≡ content_octets m.entry) }
 {
@@ -67,7 +67,7 @@ fn read_message(f: &[u8]) -> Result<Message<'_>, FrameFault>
     read_by_kind(f)
 }
 
-// The header's fault, or what the kind's reader answers. Apart, since answers by hand stand at private functions.
+// The header's fault, or what the kind's reader answers. Apart, since that it reads back rests on what it answers.
 fn read_by_kind(f: &[u8]) -> Result<Message<'_>, FrameFault>
     ensures reads { decode f.now ≡ meant result }
     ensures parts { IfOk result (λ m. OwnParts f.now m) }

@@ -101,7 +101,7 @@ pub(crate) fn read_csnp(f: &[u8]) -> Result<Csnp<'_>, FrameFault>
     })
 }
 
-// What the PSNP says, or its first fault. Its entries may be anything from eight 00 to eight FF.
+// What the PSNP says, or its first fault, of the whole frame. Its entries may be anything from eight 00 to eight FF.
 pub(crate) fn read_psnp(f: &[u8]) -> Result<Psnp<'_>, FrameFault>
     requires { 17 ≤ length f.now }
     ensures { MatchResult result (λ m. (first_fault (psnp_faults f.now) ≡ None) × (psnp_said m ≡ psnp_in f.now) × OwnParts f.now (SaysPsnp m)) (λ e. first_fault (psnp_faults f.now) ≡ Some e) }

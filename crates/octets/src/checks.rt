@@ -11,7 +11,7 @@ pub struct CheckOctets {
 }
 
 // The two sums over octets, modulo 255.
-#[derive(Clone, Copy)]
+#[derive(Clone, Copy, PartialEq, Eq, Debug)]
 pub struct Sums {
     c0: u8,
     c1: u8,
@@ -99,7 +99,7 @@ pub fn check_octets(part: &[u8], p: usize) -> Option<CheckOctets>
     Some(computed(part, p))
 }
 
-// The same, of a part that has these places. Apart, since answers by hand stand at private functions.
+// The same, of a part that has these places. Apart, so that an edit of the public function is refused at its own line.
 fn computed(part: &[u8], p: usize) -> CheckOctets
     requires { has_places p part.now ≡ true }
     ensures made { result ≡ check_octets p part.now }

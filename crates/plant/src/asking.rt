@@ -38,8 +38,7 @@ pub fn may_put<P: Plant>(plant: &P, end: End, frame: &[u8]) -> Result<usize, Cal
     ensures { MatchResult result (λ n. Lost (P.air plant.now) end.circuit.0 end.number frame.now n) (λ x. put_refusal (P.air plant.now) end.circuit.0 end.number frame.now ≡ Some x) }
 {
     FrameOctets::new(frame)?;
-    // A count that is 0 where there is no circuit: with `ends(..)?` the proof did not close.
-    let ends = count_ends(plant, end.circuit);
+    let ends = plant.ends(end.circuit)?;
     if end.number >= ends {
         return Err(CallFault::Unknown);
     }

@@ -31,6 +31,7 @@ fn tell(rt: &HostRuntime, end: End, word: &str, octets: &[u8]) -> io::Result<()>
 // Puts a frame, and prints how many ends missed it or why it is refused.
 fn put<P: Plant>(rt: &HostRuntime, plant: &mut P, end: End, frame: &[u8]) -> io::Result<()> {
     tell(rt, end, "puts", frame)?;
+    // A word and a number that is printed behind it.
     let (word, number) = match plant.put(end, frame) {
         Ok(missed) => ("missed", missed),
         Err(fault) => ("refused", usize::from(fault.number())),

@@ -7,7 +7,7 @@ use crate::body::Body;
 use fault::FrameFault;
 use octets::check_body;
 
-// The body of octets that are whole fields, in the array and the length that a body is.
+// The body of octets that are whole fields. By hand, as a body is an array and a length.
 fn whole_body(octets: &[u8]) -> Body
     requires { body_fault 0 octets.now ≡ None }
     ensures is { body_octets result ≡ octets.now }

@@ -73,7 +73,7 @@ impl Record {
         }
     }
 
-    // Apart from `write`, since answers by hand stand at private functions.
+    // Apart, so that an edit of `write` is refused at its own line.
     fn written(&self, buf: &mut [u8]) -> Result<usize, FrameFault>
         ensures { WritesRecord self.now buf.old buf.new result }
     {

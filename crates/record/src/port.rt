@@ -2,7 +2,7 @@
 ghost use Rattle.std.specs.Prelude.{◌<◌};
 
 // A router's own number for an attachment, 0 to 7. It is no circuit's number.
-// It is made by `new`, which answers an Option: there is one cause, and a conversion would need an error type for it.
+// It is made by `new`, which answers an Option: there is one cause, and a conversion would need an error type for it; `number` is its counterpart.
 #[derive(Clone, Copy, PartialEq, Eq, Debug)]
 pub struct Port {
     pub(crate) n: u8,

@@ -7,7 +7,7 @@ use crate::port::Ports;
 use crate::state::State;
 use octets::LspId;
 
-// What a router holds of one LSP: live, a purge or a placeholder.
+// What a router holds of one LSP: live, a purge or a placeholder. No equality and no Debug, as a body has none.
 #[derive(Clone, Copy)]
 pub struct Record {
     pub(crate) id: LspId,

@@ -2,7 +2,7 @@
 use crate::body::Body;
 use octets::CheckOctets;
 
-// What each form has, and no more.
+// What each form has, and no more. No equality and no Debug, as a body has none.
 #[derive(Clone, Copy)]
 pub(crate) enum State {
     Live {

@@ -7,7 +7,7 @@ pub struct Fader<P> {
 }
 
 // What fades on one circuit.
-#[derive(Clone, Copy)]
+#[derive(Clone, Copy, PartialEq, Eq, Debug)]
 pub(crate) struct Fade {
     pub(crate) pattern: u64,
     // how many frames were accepted, modulo 64

@@ -10,7 +10,7 @@ pub struct Pair<P, Q> {
     pub(crate) second: Q,
 }
 
-// Two plants that cannot be joined, and why.
+// Two plants that cannot be joined, and why. No Debug, as a plant needs none: the refusal has it, and `From` gives it.
 #[derive(Drop)]
 pub struct Unpaired<P, Q> {
     pub refusal: CallFault,
@@ -27,7 +27,7 @@ impl<P: Drop, Q: Drop> From<Unpaired<P, Q>> for CallFault {
 }
 
 // Where a circuit of a pair is: on the first plant, or on the second under a number of its own.
-#[derive(Clone, Copy)]
+#[derive(Clone, Copy, PartialEq, Eq, Debug)]
 pub(crate) enum Side {
     First,
     Second(Circuit),

@@ -12,7 +12,7 @@ use Rattle.record.specs.declared.record.Record.{Record}
 use Rattle.store.specs.Lists.{key_of, above, rises, lookup, placed, without}
 use Rattle.store.specs.Search.{IsAt, IsGap}
 
-rises_tail : (x : Record) (xs : List Record) → rises (x ∷ xs) ≡ true → rises xs ≡ true
+pub rises_tail : (x : Record) (xs : List Record) → rises (x ∷ xs) ≡ true → rises xs ≡ true
 rises_tail x xs h = (and_parts _ _ h).1
 
 -- later identifiers are larger
@@ -132,7 +132,7 @@ rises_without k [] h = refl
 rises_without k (x ∷ xs) h = grind (arith, nat_tests, above_without (key_of x) k xs, rises_without k xs)
 
 -- a record that is there is replaced, so that there are as many
-above_lower : (k j : ℕ) (ys : List Record) → k < j → above j ys ≡ true → above k ys ≡ true
+pub above_lower : (k j : ℕ) (ys : List Record) → k < j → above j ys ≡ true → above k ys ≡ true
 above_lower k j [] l a = refl
 above_lower k j (y ∷ ys) l a = let m = ltb-true _ _ a in lt-ltb _ _ (omega arith)
 

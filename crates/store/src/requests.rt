@@ -1,5 +1,5 @@
 // What is asked of a store, and what it answers.
-// Requests are data: programs print them, and one theorem ranges over all of them.
+// Requests are data: programs print them, and one theorem ranges over all of them. No equality and no Debug, as a record has none.
 use octets::LspId;
 use record::Record;
 

@@ -26,7 +26,7 @@ impl Store for Table {
 
     ghost few = { λ s r. all_few s.rows r };
 
-    // An index: what is written through `get_mut` of an array is not told.
+    // An index, and the test for it here and in `remove`: what is written through `get_mut` of an array is not told.
     #[tactic(auto, using(crate::proofs::TableLaws::table_steps))]
     fn set(&mut self, router: usize, item: Record) -> Result<(), CallFault> {
         if router >= self.rows.len() {

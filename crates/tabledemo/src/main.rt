@@ -14,7 +14,7 @@ fn lsp_id(system: u8) -> [u8; 8] {
     [0, 0, 0, 0, 0, system, 0, 0]
 }
 
-// Asks a store, and prints what it answered. The runtime, the store and the router are passed on, as in a few lines they may be.
+// Asks a store, and prints what it answered. The runtime, the store and the router are passed on: a struct of borrows for short functions is no shorter.
 fn put<S: Store>(rt: &impl Print, store: &mut S, router: usize, request: Request) -> Result<()> {
     let answer = ShownAnswer(ask(store, router, request));
     let request = ShownRequest(request);

@@ -51,6 +51,7 @@ impl ClosedSummary {
     pub fn write(&self, buf: &mut [u8]) -> Result<usize, FrameFault>
         ensures { Writes (summary_said self.now) buf.old buf.new result }
     {
+        // The first of all refusals, here as in `write_lsp`.
         if buf.len() < 275 {
             return Err(FrameFault::Size);
         }

@@ -28,7 +28,7 @@ fn lsp_octets(m: &Lsp<'_>) -> FrameOctets
     frame
 }
 
-// Writes an LSP into the caller's buffer, at its front, and answers its length. It is refused as reading it would be: whatever the
+// Writes an LSP into the caller's buffer, at its front, and answers its length, as every call that hands octets out. It is refused as reading it would be: whatever the
 // check octets say, the frame is made apart and read before it goes into the buffer.
 pub fn write_lsp(m: &Lsp<'_>, buf: &mut [u8]) -> Result<usize, FrameFault>
     ensures { Writes (lsp (lsp_said m.now)) buf.old buf.new result }

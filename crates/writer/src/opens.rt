@@ -57,6 +57,7 @@ impl OpenSummary {
                 self.listing.entries.push(e);
                 Ok(self)
             }
+            // Written out here and in `close_csnp`: a function for it would take the same two and be named instead.
             Err(fault) => Err(SummaryRefusal {
                 summary: self,
                 fault,

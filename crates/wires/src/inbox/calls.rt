@@ -30,7 +30,8 @@ impl Waiting {
     }
 }
 
-// The work over lists of inboxes, which the wire's methods call: a chain proves over a slice, and may not over a field. `held` says what waits.
+// Functions of inboxes, apart from the wire's methods, so that edits of the calls are refused at their own lines.
+// `held` is a function of the field and no model: an inbox is an Option.
 // Whether a frame waits in an inbox other than that of one end.
 pub(crate) fn others_wait(inboxes: &[Inbox], end: usize) -> bool
     ensures { result ≡ waits_elsewhere (map held inboxes.now) end (length inboxes.now) }
