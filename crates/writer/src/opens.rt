@@ -1,5 +1,5 @@
 // An open summary's methods.
-ghost use Rattle.std.specs.Prelude.{◌≡◌, ◌^◌, ◌<◌, true, [], map, nat_lt};
+ghost use Rattle.std.specs.Prelude.{◌≡◌, ◌^◌, ◌<◌, true, [], ◌∷◌, ◌++◌, map, nat_lt, None};
 ghost use Rattle.octets.specs.Octets.{value};
 ghost use Rattle.fault.specs.Order.{unless};
 ghost use Rattle.frame.specs.Meaning.{entry_said};
@@ -23,6 +23,15 @@ impl Listing {
             source,
             entries: ArrayVec::new(),
         }
+    }
+
+    // One entry more, which may follow.
+    fn push(&mut self, e: Entry)
+        requires may { entry_fault self.old.entries.items e ≡ None }
+        requires under { (value e.id < 256 ^ 8) × (e.number < 256 ^ 4) }
+        ensures { (self.new.source ≡ self.old.source) × (self.new.entries.items ≡ self.old.entries.items ++ e ∷ []) }
+    {
+        self.entries.push(e);
     }
 }
 
@@ -54,7 +63,7 @@ impl OpenSummary {
     {
         match self.check_entry(e) {
             Ok(()) => {
-                self.listing.entries.push(e);
+                self.listing.push(e);
                 Ok(self)
             }
             // Written out here and in `close_csnp`: a function for it would take the same two and be named instead.
