@@ -1,23 +1,15 @@
 -- Which inboxes hold a frame, and one that is changed.
-use Rattle.std.proofs.Common.{◌≡◌, ℕ, zero, suc, ◌<◌, ◌≤◌, Bool, true, false, cond, not, ◌&&◌, ◌||◌, eqb, List, ◌∷◌, ◌++◌, map, length, replicate, get_or, take, drop, set, is_some, Some, None, Option, sym, refl, ap, ◌∙◌, arith, add-one, zero-add}
+use Rattle.std.proofs.Common.{◌≡◌, ℕ, zero, suc, ◌<◌, ◌≤◌, Bool, true, false, cond, not, ◌&&◌, ◌||◌, eqb, List, [], ◌∷◌, ◌++◌, map, length, get_or, take, drop, set, is_some, None, sym, refl, ap, ◌∙◌, arith, add-one, zero-add}
 use Rattle.std.specs.List.{list_any, enumerate_from}
 use Rattle.std.proofs.lemmas.List.{get_or-map, length-set, take_all, take-append-le}
 use Rattle.std.proofs.lemmas.List.Folds.{list_any_more}
 use Rattle.std.proofs.lemmas.List.FromFn.{length-enumerate_from, get_or-enumerate_from}
 use Rattle.plant.specs.Calls.{waits_elsewhere}
 use Rattle.wires.specs.Held.{held}
-use Rattle.wires.specs.declared.inbox.Waiting.{Waiting}
+use Rattle.wires.specs.declared.inbox.Inbox.{Inbox}
 
-held-some : (o : Option Waiting) → is_some (held o) ≡ is_some o
-held-some None = refl
-held-some (Some w) = refl
-
-pub held-none : (n : ℕ) → map held (replicate n None) ≡ replicate n None
-held-none zero = refl
-held-none (suc n) = ap (λ xs. None ∷ xs) (held-none n)
-
-pub waits-at : (xs : List (Option Waiting)) (k : ℕ) → k < length xs → is_some (get_or (map held xs) k None) ≡ is_some (get_or xs k None)
-waits-at xs k h = ap is_some (get_or-map held xs k None None h) ∙ held-some (get_or xs k None)
+pub waits-at : (xs : List Inbox) (k : ℕ) (d : Inbox) → k < length xs → is_some (get_or (map held xs) k None) ≡ is_some (held (get_or xs k d))
+waits-at xs k d h = ap is_some (get_or-map held xs k d None h)
 
 one_more : (own here before : Bool) → (before || (not own && here)) ≡ (cond own false here || before)
 one_more true here true = refl
@@ -27,17 +19,21 @@ one_more false true false = refl
 one_more false false true = refl
 one_more false false false = refl
 
-module _ (xs : List (Option Waiting)) (e : ℕ) where
-  abbrev Other : ℕ × Option Waiting → Bool
-  Other p = not (eqb p.0 e) && is_some p.1
+-- an inbox in which no frame waits
+blank : Inbox
+blank = record { octets = record { items = [] }; few = omega arith }
+
+module _ (xs : List Inbox) (e : ℕ) where
+  abbrev Other : ℕ × Inbox → Bool
+  Other p = not (eqb p.0 e) && is_some (held p.1)
 
   upto : (n : ℕ) → n ≤ length xs → list_any Other (take n (enumerate_from 0 xs)) ≡ waits_elsewhere (map held xs) e n
   upto zero h = refl
   upto (suc n) h =
       let l : n < length (enumerate_from 0 xs) = omega (arith, length-enumerate_from 0 xs) in
-      let at : get_or (enumerate_from 0 xs) n (0, None) ≡ (n, get_or xs n None) = rw (zero-add n) at (get_or-enumerate_from 0 xs n (0, None) h) in
-      (rw (add-one n) at (list_any_more Other (enumerate_from 0 xs) n (0, None) l))
-      ∙ rw (at, upto n (omega arith), waits-at xs n h) (one_more (eqb n e) (is_some (get_or xs n None)) (waits_elsewhere (map held xs) e n))
+      let at : get_or (enumerate_from 0 xs) n (0, blank) ≡ (n, get_or xs n blank) = rw (zero-add n) at (get_or-enumerate_from 0 xs n (0, blank) h) in
+      (rw (add-one n) at (list_any_more Other (enumerate_from 0 xs) n (0, blank) l))
+      ∙ rw (at, upto n (omega arith), waits-at xs n blank h) (one_more (eqb n e) (is_some (held (get_or xs n blank))) (waits_elsewhere (map held xs) e n))
 
   pub any_other : list_any Other (enumerate_from 0 xs) ≡ waits_elsewhere (map held xs) e (length xs)
   any_other =

@@ -1,7 +1,7 @@
 -- That a wire is lawful.
-use Rattle.std.specs.Prelude.{◌≡◌, ℕ, zero, suc, ◌<◌, ◌≤◌, Bool, true, false, if◌then◌else◌, ◌==◌, List, [], ◌∷◌, length, Some, None, Option, slice_index_or, map, refl}
+use Rattle.std.specs.Prelude.{◌≡◌, ℕ, zero, suc, ◌<◌, ◌≤◌, Bool, true, false, cond, if◌then◌else◌, ◌==◌, List, [], ◌∷◌, length, Some, None, Option, slice_index_or, map, refl}
 use Rattle.std.proofs.Common.{arith}
-use Rattle.std.proofs.lemmas.Bool.{eqb-true}
+use Rattle.std.proofs.lemmas.Bool.{eqb-true, eqb-false}
 use Rattle.plant.specs.declared.Kind.{Kind}
 use Rattle.plant.specs.declared.Kind.TheVariants.{PointToPoint, Broadcast}
 use Rattle.plant.specs.Air.{Frame, Lawful, EndsFit, line, ends_of, waiting}
@@ -9,7 +9,7 @@ use Rattle.std.proofs.lemmas.List.{length-map}
 use Rattle.wires.specs.Held.{held}
 use Rattle.wires.specs.declared.wire.Wire.{Wire}
 use Rattle.wires.specs.Wires.{alone, kind_of, wire_ends, wire_air}
-use Rattle.wires.specs.declared.inbox.Waiting.{Waiting}
+use Rattle.wires.specs.declared.inbox.Inbox.{Inbox}
 
 module _ (k : Kind) (xs : List (Option Frame)) where
   pub alone_lawful :
@@ -27,13 +27,20 @@ module _ (k : Kind) (xs : List (Option Frame)) where
       sized (suc c) e f q = let z : ◌≡◌ {A = ℕ} 0 1 = cc in absurd (omega arith)
 
 -- a frame that waits has 1 to 275 octets
+pub held_fits : (b : Inbox) (f : Frame) → held b ≡ Some f → (1 ≤ length f) × (length f ≤ 275)
+held_fits b f h = go (length b.octets.items == 0) refl h
+  where
+    go : (t : Bool) → (length b.octets.items == 0) ≡ t → cond t None (Some b.octets.items) ≡ Some f → (1 ≤ length f) × (length f ≤ 275)
+    go true p q = let z : ◌≡◌ {A = ℕ} 0 1 = cc in absurd (omega arith)
+    go false p q =
+        let d = eqb-false (length b.octets.items) 0 p in
+        let r : b.octets.items ≡ f = cc in
+        (rw (← r) (omega arith), rw (← r) b.few)
+
 pub all_fit :
-    (bs : List (Option Waiting)) (e : ℕ) (f : Frame) → slice_index_or (map held bs) e None ≡ Some f → (1 ≤ length f) × (length f ≤ 275)
+    (bs : List Inbox) (e : ℕ) (f : Frame) → slice_index_or (map held bs) e None ≡ Some f → (1 ≤ length f) × (length f ≤ 275)
 all_fit [] e f h = let z : ◌≡◌ {A = ℕ} 0 1 = cc in absurd (omega arith)
-all_fit (None ∷ bs) zero f h = let z : ◌≡◌ {A = ℕ} 0 1 = cc in absurd (omega arith)
-all_fit (Some w ∷ bs) zero f h =
-    let r : w.octets.items ≡ f = cc in
-    (rw (← r) w.some, rw (← r) w.few)
+all_fit (b ∷ bs) zero f h = held_fits b f h
 all_fit (b ∷ bs) (suc e) f h = all_fit bs e f h
 
 -- how many ends fit a wire's kind

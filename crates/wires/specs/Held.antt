@@ -1,8 +1,7 @@
 -- What waits in an inbox.
-use Rattle.std.specs.Prelude.{Some, None, Option}
+use Rattle.std.specs.Prelude.{cond, length, Some, None, Option, ◌==◌}
 use Rattle.plant.specs.Air.{Frame}
-use Rattle.wires.specs.declared.inbox.Waiting.{Waiting}
+use Rattle.wires.specs.declared.inbox.Inbox.{Inbox}
 
-abbrev pub held : Option Waiting → Option Frame
-held None = None
-held (Some w) = Some w.octets.items
+abbrev pub held : Inbox → Option Frame
+held b = cond (length b.octets.items == 0) None (Some b.octets.items)

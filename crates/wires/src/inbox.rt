@@ -4,16 +4,13 @@ ghost use Rattle.arrayvec.specs.ArrayVec.{array_vec_len};
 use arrayvec::ArrayVec;
 use plant::LONGEST;
 
-// A frame that waits: 1 to 275 octets.
+// Where the frame for one end waits. A frame has 1 to 275 octets, so no octets mean that none waits.
+// They lie in place, for speed: an Option of a frame would be moved whole, with all its room, at each put and take.
 #[derive(Drop)]
-pub(crate) struct Waiting {
+pub(crate) struct Inbox {
     pub(crate) octets: ArrayVec<u8, LONGEST>,
-    ghost some: { 1 ≤ array_vec_len octets },
     ghost few: { array_vec_len octets ≤ 275 },
 }
-
-// Where the frame for one end waits, or none does.
-pub(crate) type Inbox = Option<Waiting>;
 
 mod calls;
 

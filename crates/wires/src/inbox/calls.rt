@@ -3,35 +3,39 @@ ghost use Rattle.plant.specs.Calls.{waits_elsewhere, moved, length_of};
 ghost use Rattle.wires.specs.Held.{held};
 ghost use Rattle.wires.specs.Wires.{spread};
 
-use super::{Inbox, Waiting};
+use super::Inbox;
 use arrayvec::ArrayVec;
 use plant::FrameOctets;
 
-impl Waiting {
-    // The frame, to wait.
-    fn new(frame: FrameOctets) -> Waiting
-        ensures { result.octets.items ≡ frame.entry.octets.now }
+impl Default for Inbox {
+    ghost is_default = { λ b. held b ≡ None };
+
+    // An inbox in which no frame waits.
+    fn default() -> Inbox {
+        Inbox {
+            octets: ArrayVec::new(),
+        }
+    }
+}
+
+impl Inbox {
+    // Whether a frame waits.
+    pub(crate) fn waits(&self) -> bool
+        ensures { result ≡ is_some (held self.now) }
     {
-        let mut octets = ArrayVec::new();
-        octets.try_extend_from_slice(frame.octets()).unwrap();
-        Waiting { octets }
+        !self.octets.is_empty()
     }
 
-    // Moves the frame to the buffer's front, and answers its length.
-    // The room is required here and above: a loan of the front as an array would need a clause on what it leaves.
-    fn move_to(self, buffer: &mut [u8]) -> usize
-        requires { 275 ≤ length buffer.old }
-        ensures answer { result ≡ length self.octets.items }
-        ensures buffer { buffer.new ≡ moved (Some self.octets.items) buffer.old }
+    // The frame waits here, in place of what did.
+    fn fill(&mut self, frame: FrameOctets)
+        ensures { held self.new ≡ Some frame.entry.octets.now }
     {
-        let n = self.octets.len();
-        buffer[..n].copy_from_slice(&self.octets);
-        n
+        self.octets.clear();
+        self.octets.try_extend_from_slice(frame.octets()).unwrap();
     }
 }
 
 // Functions of inboxes, apart from the wire's methods, so that edits of the calls are refused at their own lines.
-// `held` is a function of the field and no model: an inbox is an Option.
 // Whether a frame waits in an inbox other than that of one end.
 pub(crate) fn others_wait(inboxes: &[Inbox], end: usize) -> bool
     ensures { result ≡ waits_elsewhere (map held inboxes.now) end (length inboxes.now) }
@@ -39,7 +43,7 @@ pub(crate) fn others_wait(inboxes: &[Inbox], end: usize) -> bool
     inboxes
         .iter()
         .enumerate()
-        .any(|(k, inbox)| k != end && inbox.is_some())
+        .any(|(k, inbox)| k != end && inbox.waits())
 }
 
 // The frame then waits in every inbox but that of one end.
@@ -48,20 +52,24 @@ pub(crate) fn fill_others(inboxes: &mut [Inbox], end: usize, frame: FrameOctets)
 {
     for (k, inbox) in inboxes.iter_mut().enumerate() {
         if k != end {
-            *inbox = Some(Waiting::new(frame));
+            inbox.fill(frame);
         }
     }
 }
 
 // Moves what waits in an inbox to the buffer's front, and answers its length.
+// The room is required here and above: a loan of the front as an array would need a clause on what it leaves.
 pub(crate) fn release(inbox: &mut Inbox, buffer: &mut [u8]) -> Option<usize>
     requires { 275 ≤ length buffer.old }
     ensures answer { result ≡ length_of (held inbox.old) }
     ensures buffer { buffer.new ≡ moved (held inbox.old) buffer.old }
     ensures after { held inbox.new ≡ None }
 {
-    match inbox.take() {
-        Some(waiting) => Some(waiting.move_to(buffer)),
-        None => None,
+    let n = inbox.octets.len();
+    if n == 0 {
+        return None;
     }
+    buffer[..n].copy_from_slice(&inbox.octets);
+    inbox.octets.clear();
+    Some(n)
 }

@@ -7,7 +7,7 @@ ghost use Rattle.std.proofs.Common.{rules};
 ghost use Rattle.wires.specs.Alone.{wire_lawful};
 
 use super::Wire;
-use crate::inbox::{fill_others, others_wait, release};
+use crate::inbox::{Inbox, fill_others, others_wait, release};
 use arrayvec::ArrayVec;
 use fault::CallFault;
 use plant::{Circuit, End, FrameOctets, Kind, Plant, check_room};
@@ -22,7 +22,7 @@ impl<const N: usize> Wire<N> {
     {
         let mut inboxes = ArrayVec::new();
         for _ in 0..ends {
-            inboxes.push(None);
+            inboxes.push(Inbox::default());
         }
         Wire { inboxes }
     }
@@ -60,7 +60,7 @@ impl<const N: usize> Wire<N> {
         requires { end < length (wire_ends self.now) }
         ensures { result ≡ is_some (slice_index_or (wire_ends self.now) end None) }
     {
-        self.inboxes[end].is_some()
+        self.inboxes[end].waits()
     }
 
     // Whether a frame waits at another end.

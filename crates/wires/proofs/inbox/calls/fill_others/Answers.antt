@@ -13,8 +13,8 @@ loop-k-preserved c =
     elim c.if-k-end.branch [
       | then-k-end w ↦
           ap (map held) w.inboxes-is
-          ∙ (map-set held c.loop-k.inboxes k (Some w.new.result)
-          ∙ (ap (set (map held c.loop-k.inboxes) k) (ap Some w.new.ensures)
+          ∙ (map-set held c.loop-k.inboxes k w.fill.new.self
+          ∙ (ap (set (map held c.loop-k.inboxes) k) w.fill.ensures
           ∙ (ap (λ ys. set ys k (Some f)) c.loop-k.invariant ∙ sym (spread_more xs k c.args.end f w.if-k-end.true))))
       | else-k-end w ↦ ap (map held) (w.inboxes-is ∙ set-get_or c.loop-k.inboxes k _) ∙ (c.loop-k.invariant ∙ sym (spread_own xs k c.args.end f w.if-k-end.false))
     ]
