@@ -1,5 +1,5 @@
 -- Which inboxes hold a frame, and one that is changed.
-use Rattle.std.proofs.Common.{◌≡◌, ℕ, zero, suc, ◌<◌, ◌≤◌, Bool, true, false, cond, not, ◌&&◌, ◌||◌, eqb, List, [], ◌∷◌, ◌++◌, map, length, get_or, take, drop, set, is_some, None, sym, refl, ap, ◌∙◌, arith, add-one, zero-add}
+use Rattle.std.proofs.Common.{◌≡◌, ℕ, zero, suc, ◌<◌, ◌≤◌, Bool, true, false, cond, not, ◌&&◌, ◌||◌, eqb, List, [], ◌++◌, map, length, get_or, take, drop, set, is_some, None, sym, refl, ap, ◌∙◌, arith, add-one, zero-add}
 use Rattle.std.specs.List.{list_any, enumerate_from}
 use Rattle.std.proofs.lemmas.List.{get_or-map, length-set, take_all, take-append-le}
 use Rattle.std.proofs.lemmas.List.Folds.{list_any_more}

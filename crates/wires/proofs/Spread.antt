@@ -1,11 +1,11 @@
 -- A frame that is put on a plant of one circuit waits at each other end.
-use Rattle.std.proofs.Common.{◌≡◌, ℕ, zero, suc, ◌+◌, ◌<◌, ◌≤◌, ◌≢◌, List, [], ◌∷◌, length, get_or, Some, None, Option, refl, sym, ap, ◌∙◌, ⊎_elim, arith, add-one}
+use Rattle.std.proofs.Common.{◌≡◌, ℕ, zero, suc, ◌+◌, ◌<◌, ◌≤◌, ◌≢◌, List, [], ◌∷◌, length, get_or, take, set, Some, None, Option, refl, sym, ap, ◌∙◌, ⊎_elim, arith, add-one}
 use Rattle.std.specs.Prelude.{slice_index_or, slice_set}
-use Rattle.std.proofs.lemmas.List.{get_or-set_same, get_or-set_other, length-set}
+use Rattle.std.proofs.lemmas.List.{get_or-set_same, get_or-set_other, get_or-take, length-set}
 use Rattle.std.proofs.lemmas.Bool.{eq-eqb, ne_eqb, cases_eq, false≢true}
 use Rattle.plant.specs.declared.Kind.{Kind}
 use Rattle.plant.specs.Air.{Frame, line}
-use Rattle.plant.specs.Calls.{put_refusal, none}
+use Rattle.plant.specs.Calls.{waits_elsewhere, put_refusal, none}
 use Rattle.plant.proofs.Blocked.{allowed}
 use Rattle.wires.specs.Wires.{alone, spread, Delivered}
 
@@ -53,6 +53,30 @@ spread_here xs (suc n) e f =
     let r : e ≢ n = λ p. q (sym p) in
     rw (ne_eqb n e q) (get_or-set_other (spread xs n e f) n e (Some f) None r ∙ spread_here xs n e f))
     (cases_eq n e)
+
+-- the first n ends, by themselves
+pub take_of_set : (xs : List (Option Frame)) (n e : ℕ) (x : Option Frame) → take n (set xs e x) ≡ set (take n xs) e x
+take_of_set [] zero e x = refl
+take_of_set [] (suc n) e x = refl
+take_of_set (y ∷ xs) zero zero x = refl
+take_of_set (y ∷ xs) zero (suc e) x = refl
+take_of_set (y ∷ xs) (suc n) zero x = refl
+take_of_set (y ∷ xs) (suc n) (suc e) x = ap (λ ys. y ∷ ys) (take_of_set xs n e x)
+
+pub take_of_spread : (xs : List (Option Frame)) (n m e : ℕ) (f : Frame) → take n (spread xs m e f) ≡ spread (take n xs) m e f
+take_of_spread xs n zero e f = refl
+take_of_spread xs n (suc m) e f =
+    ⊎_elim
+    (λ (q : m ≡ e). rw (eq-eqb m e q) (take_of_spread xs n m e f))
+    (λ (q : m ≡ e → ⊥).
+    rw (ne_eqb m e q) (take_of_set (spread xs m e f) n m (Some f) ∙ ap (λ ys. set ys m (Some f)) (take_of_spread xs n m e f)))
+    (cases_eq m e)
+
+-- they tell whether a frame waits at one of them
+pub elsewhere_front : (xs : List (Option Frame)) (n e m : ℕ) → m ≤ n → waits_elsewhere (take n xs) e m ≡ waits_elsewhere xs e m
+elsewhere_front xs n e zero h = refl
+elsewhere_front xs n e (suc m) h =
+    rw (get_or-take n xs m None (omega arith), elsewhere_front xs n e m (omega arith)) refl
 
 module _ (k : Kind) (xs : List (Option Frame)) where
   elsewhere : (ys : List (Option Frame)) (d : ℕ) → d ≢ 0 → line (alone k ys) d ≡ line (alone k xs) d
