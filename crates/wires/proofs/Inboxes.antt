@@ -1,7 +1,7 @@
 -- Which inboxes hold a frame, and one that is changed.
-use Rattle.std.proofs.Common.{◌≡◌, ℕ, zero, suc, ◌<◌, ◌≤◌, Bool, true, false, cond, not, ◌&&◌, ◌||◌, eqb, List, [], ◌++◌, map, length, get_or, take, drop, set, is_some, None, sym, refl, ap, ◌∙◌, arith, add-one, zero-add}
+use Rattle.std.proofs.Common.{◌≡◌, ℕ, zero, suc, ◌<◌, ◌≤◌, Bool, true, false, cond, not, ◌&&◌, ◌||◌, eqb, List, ◌++◌, map, length, replicate, get_or, take, drop, set, is_some, None, sym, refl, ap, ◌∙◌, arith, add-one, zero-add}
 use Rattle.std.specs.List.{list_any, enumerate_from}
-use Rattle.std.proofs.lemmas.List.{get_or-map, length-set, take_all, take-append-le}
+use Rattle.std.proofs.lemmas.List.{get_or-map, length-replicate, length-set, take_all, take-append-le}
 use Rattle.std.proofs.lemmas.List.Folds.{list_any_more}
 use Rattle.std.proofs.lemmas.List.FromFn.{length-enumerate_from, get_or-enumerate_from}
 use Rattle.plant.specs.Calls.{waits_elsewhere}
@@ -21,7 +21,7 @@ one_more false false false = refl
 
 -- an inbox in which no frame waits
 blank : Inbox
-blank = record { octets = record { items = [] }; few = omega arith }
+blank = record { octets = replicate 275 0; len = 0; few = omega arith; whole = length-replicate {A = ℕ} 275 0 }
 
 module _ (xs : List Inbox) (e : ℕ) where
   abbrev Other : ℕ × Inbox → Bool

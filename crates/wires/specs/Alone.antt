@@ -1,11 +1,11 @@
 -- That a wire is lawful.
-use Rattle.std.specs.Prelude.{◌≡◌, ℕ, zero, suc, ◌<◌, ◌≤◌, Bool, true, false, cond, if◌then◌else◌, ◌==◌, List, [], ◌∷◌, length, Some, None, Option, slice_index_or, map, refl}
+use Rattle.std.specs.Prelude.{◌≡◌, ℕ, zero, suc, ◌<◌, ◌≤◌, Bool, true, false, cond, if◌then◌else◌, ◌==◌, List, [], ◌∷◌, length, Some, None, Option, slice_index_or, map, take, refl}
 use Rattle.std.proofs.Common.{arith}
 use Rattle.std.proofs.lemmas.Bool.{eqb-true, eqb-false}
 use Rattle.plant.specs.declared.Kind.{Kind}
 use Rattle.plant.specs.declared.Kind.TheVariants.{PointToPoint, Broadcast}
 use Rattle.plant.specs.Air.{Frame, Lawful, EndsFit, line, ends_of, waiting}
-use Rattle.std.proofs.lemmas.List.{length-map}
+use Rattle.std.proofs.lemmas.List.{length-map, length-take-le}
 use Rattle.wires.specs.Held.{held}
 use Rattle.wires.specs.declared.wire.Wire.{Wire}
 use Rattle.wires.specs.Wires.{alone, kind_of, wire_ends, wire_air}
@@ -28,14 +28,15 @@ module _ (k : Kind) (xs : List (Option Frame)) where
 
 -- a frame that waits has 1 to 275 octets
 pub held_fits : (b : Inbox) (f : Frame) → held b ≡ Some f → (1 ≤ length f) × (length f ≤ 275)
-held_fits b f h = go (length b.octets.items == 0) refl h
+held_fits b f h = go (b.len == 0) refl h
   where
-    go : (t : Bool) → (length b.octets.items == 0) ≡ t → cond t None (Some b.octets.items) ≡ Some f → (1 ≤ length f) × (length f ≤ 275)
+    go : (t : Bool) → (b.len == 0) ≡ t → cond t None (Some (take b.len b.octets)) ≡ Some f → (1 ≤ length f) × (length f ≤ 275)
     go true p q = let z : ◌≡◌ {A = ℕ} 0 1 = cc in absurd (omega arith)
     go false p q =
-        let d = eqb-false (length b.octets.items) 0 p in
-        let r : b.octets.items ≡ f = cc in
-        (rw (← r) (omega arith), rw (← r) b.few)
+        let n = length-take-le b.len b.octets (omega (arith, b.few, b.whole)) in
+        let d = eqb-false b.len 0 p in
+        let r : take b.len b.octets ≡ f = cc in
+        (rw (← r) (omega arith), rw (← r) (omega (arith, b.few)))
 
 pub all_fit :
     (bs : List Inbox) (e : ℕ) (f : Frame) → slice_index_or (map held bs) e None ≡ Some f → (1 ≤ length f) × (length f ≤ 275)

@@ -1,15 +1,15 @@
-ghost use Rattle.std.specs.Prelude.{◌≤◌};
-ghost use Rattle.arrayvec.specs.ArrayVec.{array_vec_len};
+ghost use Rattle.std.specs.Prelude.{◌≡◌, ◌≤◌, length};
 
-use arrayvec::ArrayVec;
 use plant::LONGEST;
 
-// Where the frame for one end waits. A frame has 1 to 275 octets, so no octets mean that none waits.
-// They lie in place, for speed: an Option of a frame would be moved whole, with all its room, at each put and take.
-#[derive(Drop)]
+// Where the frame for one end waits: the first `len` octets. A frame has 1 to 275, so a length of 0 means that none waits.
+// For speed the octets lie in place and are not blanked: an Option of a frame would be moved whole, an ArrayVec cleared, at each take.
+#[derive(Clone, Copy)]
 pub(crate) struct Inbox {
-    pub(crate) octets: ArrayVec<u8, LONGEST>,
-    ghost few: { array_vec_len octets ≤ 275 },
+    pub(crate) octets: [u8; LONGEST],
+    pub(crate) len: usize,
+    ghost few: { len ≤ 275 },
+    ghost whole: { length octets ≡ 275 },
 }
 
 mod calls;

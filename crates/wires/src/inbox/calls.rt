@@ -4,8 +4,7 @@ ghost use Rattle.wires.specs.Held.{held};
 ghost use Rattle.wires.specs.Wires.{spread};
 
 use super::Inbox;
-use arrayvec::ArrayVec;
-use plant::FrameOctets;
+use plant::{FrameOctets, LONGEST};
 
 impl Default for Inbox {
     ghost is_default = { λ b. held b ≡ None };
@@ -13,7 +12,8 @@ impl Default for Inbox {
     // An inbox in which no frame waits.
     fn default() -> Inbox {
         Inbox {
-            octets: ArrayVec::new(),
+            octets: [0; LONGEST],
+            len: 0,
         }
     }
 }
@@ -23,15 +23,17 @@ impl Inbox {
     pub(crate) fn waits(&self) -> bool
         ensures { result ≡ is_some (held self.now) }
     {
-        !self.octets.is_empty()
+        self.len > 0
     }
 
     // The frame waits here, in place of what did.
     fn fill(&mut self, frame: FrameOctets)
         ensures { held self.new ≡ Some frame.entry.octets.now }
     {
-        self.octets.clear();
-        self.octets.try_extend_from_slice(frame.octets()).unwrap();
+        let octets = frame.octets();
+        let n = octets.len();
+        self.octets[0..n].copy_from_slice(octets);
+        self.len = n;
     }
 }
 
@@ -65,11 +67,11 @@ pub(crate) fn release(inbox: &mut Inbox, buffer: &mut [u8]) -> Option<usize>
     ensures buffer { buffer.new ≡ moved (held inbox.old) buffer.old }
     ensures after { held inbox.new ≡ None }
 {
-    let n = inbox.octets.len();
+    let n = inbox.len;
     if n == 0 {
         return None;
     }
-    buffer[..n].copy_from_slice(&inbox.octets);
-    inbox.octets.clear();
+    buffer[..n].copy_from_slice(&inbox.octets[..n]);
+    inbox.len = 0;
     Some(n)
 }
