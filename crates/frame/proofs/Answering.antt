@@ -1,5 +1,5 @@
 -- The faults of a frame rise in rank and place as they are listed, so the first of them is answered.
-use Rattle.std.proofs.Common.{◌≡◌, ℕ, ◌+◌, ◌<◌, ◌≤◌, Bool, true, false, cond, ◌||◌, eqb, ltb, List, [], ◌∷◌, ◌++◌, length, get_or, drop, Some, None, Ok, Err, Option, Result, sym, refl, ap, ◌∙◌, subst, arith, le-ltb, lt-ltb, eq-eqb, ne_eqb, le-leb}
+use Rattle.std.proofs.Common.{◌≡◌, ℕ, suc, ◌+◌, ◌-◌, ◌*◌, ◌<◌, ◌≤◌, Bool, true, false, cond, ◌||◌, eqb, ltb, List, [], ◌∷◌, ◌++◌, length, get_or, drop, Some, None, Ok, Err, Option, Result, sym, refl, ap, ◌∙◌, subst, arith, le-ltb, lt-ltb, eq-eqb, ne_eqb, le-leb}
 use Rattle.std.specs.Option.{option_or}
 use Rattle.fault.specs.declared.FrameFault.{FrameFault}
 use Rattle.fault.specs.declared.FrameFault.TheVariants.{Short, Fixed, Kind as UnknownKind, Header, Length, Body, Tail, Lifetime, Number, Range, Order, Check}
@@ -11,7 +11,7 @@ use Rattle.octets.specs.Fields.{broken_field, body_faults, body_fault}
 use Rattle.frame.specs.declared.kind.Kind.{Kind}
 use Rattle.frame.specs.declared.kind.Kind.TheVariants.{Lsp, Csnp, Psnp}
 use Rattle.frame.specs.Messages.{SnpEntry}
-use Rattle.frame.specs.Reading.{fixed, wrong_octet, kind_of, header_faults, headed, header_answer, check_wrong, lsp_faults, tail_right, entries_of, entries_faults, last_id, csnp_faults, psnp_faults, kind_faults, faults, refusal}
+use Rattle.frame.specs.Reading.{fixed, wrong_octet, kind_of, header_faults, headed, header_answer, check_wrong, lsp_faults, tail_right, entry_at, entries_at, entries_of, entries_faults, last_id, csnp_faults, psnp_faults, kind_faults, faults, refusal}
 use Rattle.octets.proofs.FieldLaws.{broken_place, body_first}
 
 abbrev Rise : FrameFault → List (Option FrameFault) → Type 0
@@ -184,6 +184,48 @@ module _ (e : SnpEntry) (es : List SnpEntry) (place low high : ℕ) where
   module _ (l : e.lifetime ≤ 1200) where
     pub here_order : (ltb e.id low || ltb high e.id) ≡ true → entries_fault place low high (e ∷ es) ≡ Some (Order (place + 2))
     here_order o = rw (le-ltb 1200 e.lifetime l, o) refl
+
+-- of n entries, the first fault of those from k on
+abbrev pub remaining : ℕ → ℕ → ℕ → ℕ → ℕ → List ℕ → Option FrameFault
+remaining n k place low high octets = first_of (entries_faults (place + 16 * k) low high (entries_at (n - k) (16 * k) octets))
+
+module _ (n k place low high : ℕ) (octets : List ℕ) (h : k < n) where
+  one_here : entries_at (n - k) (16 * k) octets ≡ entry_at (16 * k) octets ∷ entries_at (n - (k + 1)) (16 * k + 16) octets
+  one_here = let e : n - k ≡ suc (n - (k + 1)) = omega arith in ap (λ (m : ℕ). entries_at m (16 * k) octets) e
+
+  here : remaining n k place low high octets ≡ first_of (entries_faults (place + 16 * k) low high (entry_at (16 * k) octets ∷ entries_at (n - (k + 1)) (16 * k + 16) octets))
+  here = ap (λ (es : List SnpEntry). first_of (entries_faults (place + 16 * k) low high es)) one_here
+
+  pub kth_lifetime : 1200 < field (16 * k) 2 octets → remaining n k place low high octets ≡ Some (Lifetime (place + 16 * k))
+  kth_lifetime l = here ∙ rw (lt-ltb 1200 (field (16 * k) 2 octets) l) refl
+
+  module _ (l : field (16 * k) 2 octets ≤ 1200) where
+    pub kth_order : (ltb (field (16 * k + 2) 8 octets) low || ltb high (field (16 * k + 2) 8 octets)) ≡ true →
+        remaining n k place low high octets ≡ Some (Order (place + 16 * k + 2))
+    kth_order o = here ∙ rw (le-ltb 1200 (field (16 * k) 2 octets) l, o) refl
+
+    pub here_right : (ltb (field (16 * k + 2) 8 octets) low || ltb high (field (16 * k + 2) 8 octets)) ≡ false →
+        remaining n k place low high octets ≡ remaining n (k + 1) place (field (16 * k + 2) 8 octets + 1) high octets
+    here_right o =
+        let p : place + 16 * k + 16 ≡ place + 16 * (k + 1) = omega arith in
+        let q : 16 * k + 16 ≡ 16 * (k + 1) = omega arith in
+        here
+        ∙ rw (le-ltb 1200 (field (16 * k) 2 octets) l, o) refl
+        ∙ ap (λ (a : ℕ). first_of (entries_faults a (field (16 * k + 2) 8 octets + 1) high (entries_at (n - (k + 1)) (16 * k + 16) octets))) p
+        ∙ ap (λ (a : ℕ). first_of (entries_faults (place + 16 * (k + 1)) (field (16 * k + 2) 8 octets + 1) high (entries_at (n - (k + 1)) a octets))) q
+
+pub at_first : (n place low high : ℕ) (octets : List ℕ) → remaining n 0 place low high octets ≡ first_fault (entries_faults place low high (entries_at n 0 octets))
+at_first n place low high octets =
+    let p : place + 16 * 0 ≡ place = omega arith in
+    let q : n - 0 ≡ n = omega arith in
+    ap (λ (a : ℕ). first_of (entries_faults a low high (entries_at (n - 0) 0 octets))) p
+    ∙ ap (λ (m : ℕ). first_of (entries_faults place low high (entries_at m 0 octets))) q
+    ∙ sym (first_entries (entries_at n 0 octets) place low high)
+
+pub at_last : (n k place low high : ℕ) (octets : List ℕ) → n ≤ k → remaining n k place low high octets ≡ None
+at_last n k place low high octets h =
+    let e : n - k ≡ 0 = omega arith in
+    ap (λ (m : ℕ). first_of (entries_faults (place + 16 * k) low high (entries_at m (16 * k) octets))) e
 
 -- what a check answers
 pub refused : (o : Option FrameFault) (x y : FrameFault) → o ≡ Some x → y ≡ x → ◌≡◌ {A = Result (Unit {0}) FrameFault} (Err y) (unless o tt)

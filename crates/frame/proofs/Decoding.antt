@@ -1,10 +1,14 @@
 -- What a frame answers, from what its header and its kind answer.
-use Rattle.std.proofs.Common.{◌≡◌, ℕ, List, Some, None, Ok, Err, Option, refl, ap, ◌∙◌, arith}
+use Rattle.std.proofs.Common.{◌≡◌, ℕ, ◌≤◌, List, length, Some, None, Ok, Err, Option, refl, ap, ◌∙◌, arith}
 use Rattle.std.specs.Option.{option_or}
 use Rattle.fault.specs.declared.FrameFault.{FrameFault}
-use Rattle.fault.specs.Order.{first_fault}
+use Rattle.fault.specs.Order.{frame_rank, first_fault}
+use Rattle.fault.specs.Refusals.{frame_place}
+use Rattle.fault.proofs.Laws.{none_of}
 use Rattle.frame.specs.declared.kind.Kind.{Kind}
+use Rattle.frame.specs.Kinds.{header_size}
 use Rattle.frame.specs.Reading.{kind_of, header_faults, headed, header_answer, kind_faults, refusal, said, answered, decode}
+use Rattle.frame.proofs.Heads.{Heads, heads_of}
 use Rattle.frame.proofs.Answering.{first_refusal}
 
 headed_ok : (h : Option FrameFault) (o : Option Kind) (k : Kind) → headed h o ≡ Ok k → (h ≡ None) × (o ≡ Some k)
@@ -25,6 +29,12 @@ header_refused f e h =
 module _ (f : List ℕ) (k : Kind) (h : header_answer f ≡ Ok k) where
   parts : (first_fault (header_faults f) ≡ None) × (kind_of f ≡ Some k)
   parts = headed_ok (first_fault (header_faults f)) (kind_of f) k h
+
+  pub header_heads : Heads f k
+  header_heads = heads_of f k (none_of frame_rank frame_place (header_faults f) parts.0) parts.1
+
+  pub header_long : header_size k ≤ length f
+  header_long = header_heads.long
 
   then_kind : (r : Option FrameFault) → first_fault (kind_faults (Some k) f) ≡ r → decode f ≡ answered r (Some k) f
   then_kind r e =

@@ -2,14 +2,15 @@
 use Rattle.std.proofs.Common.{◌≡◌, ℕ, zero, suc, ◌+◌, ◌-◌, ◌*◌, ◌/◌, ◌%◌, ◌<◌, ◌≤◌, min, Bool, true, false, ◌&&◌, eqb, ltb, leb, List, [], ◌∷◌, ◌++◌, length, get_or, take, drop, Some, slice_get, add-zero, sym, refl, ap, ◌∙◌, arith, length-drop, get_or-drop, drop-drop, ltb-false, le-ltb, eq-eqb, eqb-true, le-leb, leb-true}
 use Rattle.std.specs.List.{AllByRecursion}
 use Rattle.std.proofs.ByRecursion.{All-drop}
-use Rattle.std.proofs.lemmas.List.{take-take, drop-take, get_or-take, length-take}
+use Rattle.std.proofs.lemmas.List.{take_all, take-take, drop-take, get_or-take, length-take}
 use Rattle.fault.specs.declared.FrameFault.TheVariants.{Lifetime, Order}
 use Rattle.fault.proofs.Laws.{fails_not, not_fails}
 use Rattle.octets.specs.declared.checks.CheckOctets.{CheckOctets}
 use Rattle.octets.specs.Octets.{Octets, value, octets, part, field}
+use Rattle.octets.specs.Fields.{Front}
 use Rattle.octets.proofs.Numbers.{value-octets}
 use Rattle.frame.specs.Messages.{SnpEntry, entry_octets, entries_octets, tail_octets}
-use Rattle.frame.specs.Reading.{check_at, entry_at, entries_at, entries_of, entries_faults, tail_right}
+use Rattle.frame.specs.Reading.{check_at, entry_at, entries_at, entries_of, entries_faults, tail_right, field_lists}
 use Rattle.frame.specs.Meaning.{entry_count, entries_in}
 use Rattle.frame.specs.Trip.{EntryFits, Rises}
 use Rattle.frame.proofs.Heads.{NoFaults, cell, run, octets-field, field_under, or_false, or_off}
@@ -290,3 +291,22 @@ entries_get n k f h =
     get_from n k f 0 h
     ∙ ap (λ (a : ℕ). Some (entry_at a f)) (add-zero (16 * k))
     ∙ ap Some (entry_from f (drop (16 * k) f) (16 * k) refl ∙ sym (entry_front (drop (16 * k) f) 0 16 (omega arith)))
+
+pub tail_lists : (t v rest : List ℕ) (code : ℕ) → Front t code v rest → field_lists code v rest ≡ true → (tail_right t ≡ true) × (v ≡ drop 2 t)
+tail_lists [] v rest code f h = absurd (omega (arith, f.rest_length))
+tail_lists (x ∷ []) v rest code f h = absurd (omega (arith, f.rest_length))
+tail_lists (x ∷ n ∷ xs) v rest code f h =
+    let a = and_on (eqb code 9) _ h in
+    let b = and_on (eqb (length rest) 0) _ a.1 in
+    let c = and_on (eqb (length v % 16) 0) _ b.1 in
+    let d = and_on (leb 16 (length v)) (leb (length v) 240) c.1 in
+    let r0 : length rest ≡ 0 = eqb-true (length rest) 0 b.0 in
+    let n16 : length v % 16 ≡ 0 = eqb-true (length v % 16) 0 c.0 in
+    let low : 16 ≤ length v = leb-true 16 (length v) d.0 in
+    let high : length v ≤ 240 = leb-true (length v) 240 d.1 in
+    let vn : length v ≡ n = f.value_length in
+    let nx : n ≡ length xs = omega (arith, f.rest_length) in (
+      five _ _ _ _ _ (eq-eqb x 9 (sym f.code_is ∙ eqb-true code 9 a.0)) (eq-eqb n (length xs) nx) (eq-eqb (n % 16) 0 (sym (ap (λ (k : ℕ). k % 16) vn) ∙ n16))
+          (le-leb 16 n (omega arith)) (le-leb n 240 (omega arith)),
+      f.value_is ∙ take_all n xs (omega arith),
+    )

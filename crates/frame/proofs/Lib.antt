@@ -1,3 +1,4 @@
+pub mod Numerals
 pub mod Heads
 pub mod Lsps
 pub mod EntryLists

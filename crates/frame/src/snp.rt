@@ -50,14 +50,13 @@ fn read_entries(f: &[u8], size: u16) -> Result<Entries<'_>, FrameFault>
 // Whether an identifier is not over the last one, or out of the range. A bool: its caller has the place that the refusal needs.
 // A match, since what a closure that calls a function returns is not told.
 fn is_out(id: LspId, range: IdRange, last: Option<LspId>) -> bool
-    requires { value range.start ≤ floor (value range.start) last }
     ensures { result ≡ (nat_lt (value id) (floor (value range.start) last) || nat_lt (value range.end) (value id)) }
 {
-    let falls = match last {
-        Some(last) => !before(last, id),
-        None => false,
+    let rises = match last {
+        Some(last) => before(last, id),
+        None => !before(id, range.start),
     };
-    falls || !range.contains(id)
+    !rises || before(range.end, id)
 }
 
 // Refuses entries of which one has a lifetime over 1,200, or an identifier that does not rise within the range.

@@ -147,3 +147,9 @@ checked_long at n body e l =
 pub checked_short : (at : ℕ) (body : List ℕ) (o : Option FrameFault) → length body ≤ 100 → broken_field at body ≡ o →
     ◌≡◌ {A = Result (Unit {0}) FrameFault} (unless o tt) (unless (body_fault at body) tt)
 checked_short at body o l e = sym (ap (λ (r : Option FrameFault). unless r tt) (body_short at body l ∙ e))
+
+pub after_less : (xs : List ℕ) → stands xs ≡ true → length (after xs) + 2 ≤ length xs
+after_less xs h = let l : 2 + get_or xs 1 0 ≤ length xs = grind (arith, nat_tests) in simp length-drop (omega arith)
+
+pub none_anywhere : (at at' : ℕ) (body : List ℕ) → broken_field at body ≡ None → broken_field at' body ≡ None
+none_anywhere at at' body h = whole_none at' (none_whole at body h)

@@ -1,6 +1,7 @@
 -- The order of identifiers: the first octet that differs decides.
-use Rattle.std.proofs.Common.{◌≡◌, ℕ, ◌+◌, ◌*◌, ◌<◌, List, [], ◌∷◌, length, get_or, Ordering, Less, Equal, Greater, refl, arith}
-use Rattle.std.proofs.ByRecursion.{All-from_get_or}
+use Rattle.std.proofs.Common.{◌≡◌, ℕ, ◌+◌, ◌*◌, ◌<◌, List, [], ◌∷◌, length, get_or, drop, Ordering, Less, Equal, Greater, refl, arith}
+use Rattle.std.proofs.ByRecursion.{All-from_get_or, All-drop}
+use Rattle.std.proofs.lemmas.List.{drop_more, length-drop}
 use Rattle.std.specs.Ordering.{MatchOrdering, ordering_then, nat_cmp}
 use Rattle.std.specs.Cmp.{ranks}
 use Rattle.std.specs.Cmp.Lexicographic.{slice_cmp}
@@ -36,3 +37,15 @@ module _ (a b : List ℕ) (f : (k : ℕ) → get_or a k 0 < 256) (g : (k : ℕ) 
 
   pub equal_ids : value a ≡ value b → a ≡ b
   equal_ids e = value_same a b same (octets_from a f) (octets_from b g) e
+
+module _ (a b : List ℕ) (f : (k : ℕ) → get_or a k 0 < 256) (same : length a ≡ length b) where
+  -- where two numbers begin alike, the first octet that differs decides
+  pub decides : (i p : ℕ) → i < length a → value a ≡ onward p (drop i a) → value b ≡ onward p (drop i b) → get_or a i 0 < get_or b i 0 → value a < value b
+  decides i p h ea eb lt =
+      let da = drop_more a i 0 h in
+      let db = drop_more b i 0 (omega arith) in
+      let k =
+      onward_lt (drop (i + 1) a) (drop (i + 1) b) (p * 256 + get_or a i 0) (p * 256 + get_or b i 0) (omega arith) (simp length-drop (omega arith))
+      (All-drop (λ (x : ℕ). x < 256) (i + 1) a (octets_from a f))
+      in
+      rw (ea, eb, da, db) k
