@@ -1,4 +1,4 @@
-use Rattle.std.proofs.Common.{◌≡◌, sym, ap, ◌∙◌, arith, rules}
+use Rattle.std.proofs.Common.{sym, ap, ◌∙◌, arith, rules}
 use Rattle.octets.specs.Octets.{value}
 use Rattle.frame.specs.declared.kind.Kind.{Kind}
 use Rattle.frame.specs.Messages.{header}
