@@ -18,7 +18,7 @@ use Rattle.frame.proofs.EntryLists.{length_entries}
 use Rattle.writer.specs.declared.scope.Scope.{Scope}
 use Rattle.writer.specs.declared.scope.Scope.TheVariants.{Csnp, Psnp}
 use Rattle.writer.specs.Listing.{entry_right, rises, inside, in_scope}
-use Rattle.writer.specs.Summaries.{said_in, tail_size, head_octets, HeadFits}
+use Rattle.writer.specs.Summaries.{said_in, tail_size, head_octets}
 
 entry_fits : (e : Entry) → entry_right e ≡ true → EntryFits (entry_said e)
 entry_fits e h =
@@ -65,7 +65,7 @@ whole_rises low (e ∷ es) h =
 
 pub summary_fits :
     (s : Scope) (source : ℕ) (es : List Entry)
-    → HeadFits s source
+    → source < 256 ^ 7
     → length es ≤ 15
     → rises 0 es ≡ true
     → in_scope s es ≡ true
@@ -73,11 +73,13 @@ pub summary_fits :
 summary_fits (Csnp r) source es k few h c =
     let a = and_parts (not (empty r)) (nat_le (value r.end) last_id && inside r es) c in
     let b = and_parts (nat_le (value r.end) last_id) (inside r es) a.1 in
+    let l : value r.start ≤ value r.end = grind (arith, nat_tests, a.0) in
+    let m : value r.end ≤ last_id = grind (arith, nat_tests, b.0) in
     record {
-      source = k.0;
-      start = k.1;
-      end = k.2;
-      range = grind (arith, nat_tests, a.0);
+      source = k;
+      start = omega arith;
+      end = omega arith;
+      range = l;
       entries = entries_fit 0 es h;
       few = omega (arith, length-map es entry_said);
       rising = range_rises r es h b.1;
@@ -102,3 +104,7 @@ summary_octets (Csnp r) source es =
 summary_octets Psnp source es =
     ap (λ (n : ℕ). (header Kind.Psnp n ++ octets 7 source) ++ tail_octets (map entry_said es))
     (sym (length_tail_is (map entry_said es) ∙ ap tail_size (length-map es entry_said)))
+
+pub head_short : (s : Scope) (source behind : ℕ) → length (head_octets s source behind) ≤ 33
+head_short (Csnp r) source behind = omega arith
+head_short Psnp source behind = omega arith

@@ -1,8 +1,11 @@
 -- The octets of numbers and identifiers, and of the messages made of them.
-use Rattle.std.proofs.Common.{◌≡◌, ℕ, ◌/◌, ◌%◌, ◌^◌, ◌<◌, List, [], ◌∷◌, length, get_or, sym, ap, arith}
+use Rattle.std.proofs.Common.{◌≡◌, ℕ, ◌/◌, ◌%◌, ◌^◌, ◌<◌, List, [], ◌∷◌, length, get_or, sym, refl, ap, arith}
 use Rattle.octets.specs.Octets.{Octets, octets, value}
 use Rattle.octets.proofs.Numbers.{octets-value, value_under}
 use Rattle.octets.proofs.Orders.{octets_from}
+
+pub same_four : (a a' b b' c c' d : ℕ) → a ≡ a' → b ≡ b' → c ≡ c' → ◌≡◌ {A = List ℕ} (a ∷ b ∷ c ∷ d ∷ []) (a' ∷ b' ∷ c' ∷ d ∷ [])
+same_four a a' b b' c c' d p q r = rw (p, q, r) refl
 
 pub four_octets : (n : ℕ) → (n / 16777216 % 256) ∷ (n / 65536 % 256) ∷ (n / 256 % 256) ∷ (n % 256) ∷ [] ≡ octets 4 n
 four_octets n = grind arith

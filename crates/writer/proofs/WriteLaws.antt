@@ -1,5 +1,5 @@
 -- What writing a message answers.
-use Rattle.std.proofs.Common.{◌≡◌, ℕ, ◌^◌, ◌<◌, ◌≤◌, Bool, true, false, ltb, List, length, Some, None, Ok, Err, Option, Result, sym, refl, ap, ◌∙◌, arith, le-ltb, lt-ltb}
+use Rattle.std.proofs.Common.{◌≡◌, ℕ, ◌^◌, ◌<◌, ◌≤◌, Bool, true, false, ◌||◌, ltb, List, length, Some, None, Ok, Err, Option, Result, sym, refl, ap, ◌∙◌, arith, le-ltb, lt-ltb}
 use Rattle.std.specs.Option.{option_or}
 use Rattle.std.proofs.lemmas.Bool.Decides.{nat_tests}
 use Rattle.fault.specs.declared.FrameFault.{FrameFault}
@@ -109,6 +109,12 @@ pub lsp_again : (m : LspPdu) (x : Pdu) → m.lifetime < 65536 → m.id < 256 ^ 8
 lsp_again m x ht hi hn hb d =
     let a = answered_ok (refusal_of (lsp m)) Lsp (encode (lsp m)) x (as_kind (lsp m) (Ok x) d) in
     d ∙ ap Ok (sym a.1) ∙ ap (λ (y : LspPdu). Ok (lsp y)) (lsp_says (encode (lsp m)) m (lays m ht hi hn hb))
+
+pub four_true : (a b c : Bool) → a || (b || (c || true)) ≡ true
+four_true true b c = refl
+four_true false true c = refl
+four_true false false true = refl
+four_true false false false = refl
 
 -- an LSP whose body is too long for a frame
 pub too_long : (m : LspPdu) (old : List ℕ) → 275 ≤ length old → 248 < length m.body → Writes (lsp m) old old (Err Length)

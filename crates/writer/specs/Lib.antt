@@ -1,3 +1,4 @@
+pub mod Places
 pub mod Writing
 pub mod Listing
 pub mod Summaries

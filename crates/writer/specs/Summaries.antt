@@ -1,5 +1,5 @@
 -- What summaries say.
-use Rattle.std.specs.Prelude.{◌≡◌, ℕ, ◌+◌, ◌*◌, ◌^◌, ◌<◌, if◌then◌else◌, List, [], ◌∷◌, ◌++◌, map, Some, None, Ok, Err, Result, ◌==◌}
+use Rattle.std.specs.Prelude.{◌≡◌, ℕ, ◌+◌, ◌*◌, if◌then◌else◌, List, [], ◌∷◌, ◌++◌, map, Some, None, Ok, Err, Result, ◌==◌}
 use Rattle.octets.specs.Octets.{value, octets}
 use Rattle.octets.specs.declared.ids.IdRange.{IdRange}
 use Rattle.frame.specs.declared.message.Entry.{Entry}
@@ -44,8 +44,3 @@ tail_size count = if count == 0 then 0 else 2 + 16 * count
 abbrev pub head_octets : Scope → ℕ → ℕ → List ℕ
 head_octets (Csnp r) source behind = header Kind.Csnp behind ++ octets 7 source ++ octets 8 (value r.start) ++ octets 8 (value r.end)
 head_octets Psnp source behind = header Kind.Psnp behind ++ octets 7 source
-
--- the numbers in front of the entries fit their octets
-abbrev pub HeadFits : Scope → ℕ → Type 0
-HeadFits (Csnp r) source = (source < 256 ^ 7) × (value r.start < 256 ^ 8) × (value r.end < 256 ^ 8)
-HeadFits Psnp source = source < 256 ^ 7

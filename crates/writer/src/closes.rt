@@ -1,10 +1,9 @@
 // Writing out a closed summary.
-ghost use Rattle.std.specs.Prelude.{◌≡◌, ◌≤◌};
+ghost use Rattle.std.specs.Prelude.{◌≡◌, ◌≤◌, length};
 ghost use Rattle.octets.specs.Octets.{value};
-ghost use Rattle.frame.specs.Messages.{encode};
-ghost use Rattle.frame.specs.Trip.{Fits};
+ghost use Rattle.writer.specs.Places.{Wrote};
 ghost use Rattle.writer.specs.Writing.{Writes};
-ghost use Rattle.writer.specs.Summaries.{HeadFits, head_octets, tail_size, summary_said};
+ghost use Rattle.writer.specs.Summaries.{head_octets, tail_size, summary_said};
 
 use crate::frame_octets::FrameOctets;
 use crate::scope::Scope;
@@ -21,12 +20,12 @@ fn tail_len(count: usize) -> usize
 }
 
 // The header of a summary's frame, so many octets standing behind it.
-fn head(source: SourceId, scope: Scope, behind: usize) -> FrameOctets
-    requires { behind ≤ 242 }
-    ensures is { result ≡ head_octets scope (value source) behind }
-    ensures fits { HeadFits scope (value source) }
+fn head<'a>(source: SourceId, scope: Scope, behind: usize, buf: &'a mut [u8]) -> FrameOctets<'a>
+    requires { (behind ≤ 242) × (275 ≤ length buf.old) }
+    ensures same_reference { result.buf.ghost_name ≡ buf.entry.ghost_name }
+    ensures wrote { Wrote buf.old 0 (head_octets scope (value source) behind) result.buf.now result.len }
 {
-    let mut frame = FrameOctets::headed(scope.kind(), behind);
+    let mut frame = FrameOctets::headed(scope.kind(), behind, buf);
     frame.put(&source);
     if let Scope::Csnp(range) = scope {
         frame.put(&range.start);
@@ -36,17 +35,6 @@ fn head(source: SourceId, scope: Scope, behind: usize) -> FrameOctets
 }
 
 impl ClosedSummary {
-    // The frame that says it.
-    fn octets(&self) -> FrameOctets
-        ensures is { result ≡ encode (summary_said self.now) }
-        ensures fits { Fits (summary_said self.now) }
-    {
-        let entries = &self.listing.entries;
-        let mut frame = head(self.listing.source, self.scope, tail_len(entries.len()));
-        frame.put_tail(entries);
-        frame
-    }
-
     // Writes the summary into the caller's buffer, at its front, and answers its length, as every call that hands octets out.
     pub fn write(&self, buf: &mut [u8]) -> Result<usize, FrameFault>
         ensures { Writes (summary_said self.now) buf.old buf.new result }
@@ -55,6 +43,14 @@ impl ClosedSummary {
         if buf.len() < 275 {
             return Err(FrameFault::Size);
         }
-        Ok(self.octets().copy_to(buf))
+        let entries = &self.listing.entries;
+        let mut frame = head(
+            self.listing.source,
+            self.scope,
+            tail_len(entries.len()),
+            buf,
+        );
+        frame.put_tail(entries);
+        Ok(frame.len)
     }
 }

@@ -1,55 +1,53 @@
-// The octets of a frame as it is made.
-ghost use Rattle.std.specs.Prelude.{◌≡◌, ◌+◌, ◌≤◌, ◌++◌, length, map};
+// The octets of a frame, written into a buffer's front.
+ghost use Rattle.std.specs.Prelude.{◌≡◌, ◌+◌, ◌≤◌, length, map, take};
 ghost use Rattle.frame.specs.Kinds.{header_size};
 ghost use Rattle.frame.specs.Messages.{header, entry_octets, tail_octets};
 ghost use Rattle.frame.specs.Meaning.{entry_said};
-ghost use Rattle.writer.specs.Writing.{in_front};
+ghost use Rattle.writer.specs.Places.{Wrote};
 
-use arrayvec::ArrayVec;
 use frame::{Entry, Kind};
-use std::marker::Model;
 
-// At most 275 octets, to which others are appended.
+// A buffer, and how many octets stand in its front.
 #[derive(Drop)]
-pub(crate) struct FrameOctets {
-    octets: ArrayVec<u8, 275>,
+pub(crate) struct FrameOctets<'a> {
+    pub(crate) buf: &'a mut [u8],
+    pub(crate) len: usize,
 }
 
-impl Model for FrameOctets {
-    ghost use Rattle.std.specs.Prelude.{ℕ, List};
-
-    ghost Value = { List ℕ };
-
-    ghost view = { λ f. f.octets.items };
-}
-
-impl FrameOctets {
+impl<'a> FrameOctets<'a> {
     // The octets that a frame of a kind begins with, so many standing behind its header.
-    pub(crate) fn headed(kind: Kind, behind: usize) -> FrameOctets
-        requires { header_size kind + behind ≤ 275 }
-        ensures { result ≡ header kind behind }
+    pub(crate) fn headed(kind: Kind, behind: usize, buf: &'a mut [u8]) -> FrameOctets<'a>
+        requires { (header_size kind + behind ≤ 275) × (275 ≤ length buf.old) }
+        ensures same_reference { result.buf.ghost_name ≡ buf.entry.ghost_name }
+        ensures wrote { Wrote buf.old 0 (header kind behind) result.buf.now result.len }
     {
         let size = kind.header_size();
         let [high, low] = ((size + behind) as u16).to_be_bytes();
-        let mut frame = FrameOctets {
-            octets: ArrayVec::new(),
-        };
+        let mut frame = FrameOctets { buf, len: 0 };
         frame.put(&[0x83, size as u8, 1, 0, u8::from(kind), 1, 0, 0, high, low]);
         frame
     }
 
     // Appends octets.
+    #[inline]
     pub(crate) fn put(&mut self, more: &[u8])
-        requires { length self.old + length more.now ≤ 275 }
-        ensures { self.new ≡ self.old ++ more.now }
+        requires { self.old.len + length more.now ≤ length self.old.buf.now }
+        ensures same_reference { self.new.buf.ghost_name ≡ self.old.buf.ghost_name }
+        ensures wrote { Wrote self.old.buf.now self.old.len more.now self.new.buf.now self.new.len }
     {
-        self.octets.try_extend_from_slice(more).unwrap();
+        let at = self.len;
+        let end = at + more.len();
+        let buf = &mut *self.buf;
+        buf[at..end].copy_from_slice(more);
+        self.len = end;
     }
 
     // Appends an entry of a summary.
+    #[inline]
     pub(crate) fn put_entry(&mut self, e: Entry)
-        requires { length self.old + 16 ≤ 275 }
-        ensures { self.new ≡ self.old ++ entry_octets (entry_said e) }
+        requires { self.old.len + 16 ≤ length self.old.buf.now }
+        ensures same_reference { self.new.buf.ghost_name ≡ self.old.buf.ghost_name }
+        ensures wrote { Wrote self.old.buf.now self.old.len (entry_octets (entry_said e)) self.new.buf.now self.new.len }
     {
         self.put(&e.lifetime.to_be_bytes());
         self.put(&e.id);
@@ -59,9 +57,9 @@ impl FrameOctets {
 
     // Appends nothing, or one field of code 09 with the entries.
     pub(crate) fn put_tail(&mut self, entries: &[Entry])
-        requires few { length entries.now ≤ 15 }
-        requires room { length self.old + 242 ≤ 275 }
-        ensures { self.new ≡ self.old ++ tail_octets (map entry_said entries.now) }
+        requires { (length entries.now ≤ 15) × (self.old.len + 242 ≤ length self.old.buf.now) }
+        ensures same_reference { self.new.buf.ghost_name ≡ self.old.buf.ghost_name }
+        ensures wrote { Wrote self.old.buf.now self.old.len (tail_octets (map entry_said entries.now)) self.new.buf.now self.new.len }
     {
         if entries.is_empty() {
             return;
@@ -74,19 +72,10 @@ impl FrameOctets {
 
     // The octets.
     pub(crate) fn as_slice(&self) -> &[u8]
-        ensures { result.now ≡ self.now }
+        requires { self.now.len ≤ length self.now.buf.now }
+        ensures { result.now ≡ take self.now.len self.now.buf.now }
     {
-        &self.octets
-    }
-
-    // Copies them into a buffer's front, and answers how many they are.
-    pub(crate) fn copy_to(&self, buf: &mut [u8]) -> usize
-        requires { 275 ≤ length buf.old }
-        ensures front { buf.new ≡ in_front self.now buf.old }
-        ensures count { result ≡ length self.now }
-    {
-        let n = self.octets.len();
-        buf[..n].copy_from_slice(&self.octets);
-        n
+        let buf = &*self.buf;
+        &buf[..self.len]
     }
 }

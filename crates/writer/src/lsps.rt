@@ -3,6 +3,7 @@ ghost use Rattle.std.specs.Prelude.{◌≡◌, ◌-◌, ◌≤◌, true, length}
 ghost use Rattle.octets.specs.Checks.{check_octets, right};
 ghost use Rattle.frame.specs.Messages.{lsp, covered_part, encode};
 ghost use Rattle.frame.specs.Meaning.{lsp_said};
+ghost use Rattle.writer.specs.Places.{Wrote};
 ghost use Rattle.writer.specs.Writing.{with_check_octets, Sized, Writes};
 
 use crate::frame_octets::FrameOctets;
@@ -10,13 +11,14 @@ use fault::FrameFault;
 use frame::{Entry, FrameReader, Kind, Lsp};
 use octets::{CheckOctets, Sums};
 
-// The frame that says an LSP. Octets 10 to 25 are those of an entry.
-fn lsp_octets(m: &Lsp<'_>) -> FrameOctets
-    requires { length m.now.body.now ≤ 248 }
-    ensures is { result ≡ encode (lsp (lsp_said m.now)) }
+// The frame that says an LSP, in a buffer's front. Octets 10 to 25 are those of an entry.
+fn lsp_octets<'a>(m: &Lsp<'_>, buf: &'a mut [u8]) -> FrameOctets<'a>
+    requires { (length m.now.body.now ≤ 248) × (275 ≤ length buf.old) }
+    ensures same_reference { result.buf.ghost_name ≡ buf.entry.ghost_name }
+    ensures wrote { Wrote buf.old 0 (encode (lsp (lsp_said m.now))) result.buf.now result.len }
     ensures sized { Sized (lsp_said m.now) }
 {
-    let mut frame = FrameOctets::headed(Kind::Lsp, m.body.len());
+    let mut frame = FrameOctets::headed(Kind::Lsp, m.body.len(), buf);
     frame.put_entry(Entry {
         lifetime: m.lifetime,
         id: m.id,
@@ -39,9 +41,13 @@ pub fn write_lsp(m: &Lsp<'_>, buf: &mut [u8]) -> Result<usize, FrameFault>
     if m.body.len() > 248 {
         return Err(FrameFault::Length);
     }
-    let frame = lsp_octets(m);
-    FrameReader::new(frame.as_slice()).message()?;
-    Ok(frame.copy_to(buf))
+    let mut apart = [0; 275];
+    let frame = lsp_octets(m, &mut apart);
+    let whole = frame.as_slice();
+    FrameReader::new(whole).message()?;
+    let n = whole.len();
+    buf[..n].copy_from_slice(whole);
+    Ok(n)
 }
 
 // The check octets that make an LSP right, whatever it has.
