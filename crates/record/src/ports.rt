@@ -83,7 +83,7 @@ impl Sub for Ports {
 
     ghost sub_gives = { IsDifference };
 
-    #[tactic(auto, using(crate::proofs::Masks::bit_clear))]
+    #[tactic(auto, using(crate::proofs::Masks::bit_clear_all))]
     fn sub(self, less: Ports) -> Ports {
         Ports {
             bits: self.bits & !less.bits,
