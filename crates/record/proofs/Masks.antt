@@ -40,8 +40,8 @@ bit_one p k =
 pub bit_shl : (p k : ℕ) → p < 8 → bit (1 * 2 ^ p % 2 ^ 8) k ≡ eqb k p
 bit_shl p k l = rw (one_shl p 8 l) (bit_one p k)
 
-pub bit_or_lem : (n m k : ℕ) → bit (bit_or n m) k ≡ (bit n k || bit m k)
-bit_or_lem n m k = let e = bit_at_or n m k in grind (arith, nat_tests)
+pub bit-or : (n m k : ℕ) → bit (bit_or n m) k ≡ (bit n k || bit m k)
+bit-or n m k = let e = bit_at_or n m k in grind (arith, nat_tests)
 
 -- the bits that an octet has not
 pub bit_not : (m k : ℕ) → m < 256 → k < 8 → bit (255 - m) k ≡ not (bit m k)
@@ -65,4 +65,7 @@ pub bits_same : (n m : ℕ) → n < 256 → m < 256 → ((k : ℕ) → k < 8 →
 bits_same n m h l f = same_from_bits_below 8 n m h l (λ k b. place_same n m k (f k b))
 
 pub bits_stand : BitsStand
-bits_stand = record { zero = bit_zero; one = λ p k h l. bit_one p k; set = bit_or_lem; clear = bit_clear; same = bits_same }
+bits_stand = record { zero = bit_zero; one = λ p k h l. bit_one p k; set = bit-or; clear = bit_clear; same = bits_same }
+
+-- for the unions and the differences of sets of ports
+pub ruleset mask_steps = (bit-or, bit_clear_all)
