@@ -1,3 +1,4 @@
 pub mod Masks
 pub mod FormLaws
+pub mod OrderLaws
 pub mod SayLaws

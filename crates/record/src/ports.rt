@@ -69,7 +69,7 @@ impl BitOr for Ports {
 
     ghost bitor_gives = { IsUnion };
 
-    #[tactic(auto, using(crate::proofs::Masks::bit_or_lem))]
+    #[tactic(auto, using(crate::proofs::Masks::mask_steps))]
     fn bitor(self, more: Ports) -> Ports {
         Ports {
             bits: self.bits | more.bits,
@@ -83,7 +83,7 @@ impl Sub for Ports {
 
     ghost sub_gives = { IsDifference };
 
-    #[tactic(auto, using(crate::proofs::Masks::bit_clear))]
+    #[tactic(auto, using(crate::proofs::Masks::mask_steps))]
     fn sub(self, less: Ports) -> Ports {
         Ports {
             bits: self.bits & !less.bits,

@@ -1,2 +1,6 @@
-mod Places
-mod TableLaws
+pub mod Placing
+pub mod Removing
+pub mod Rowing
+pub mod Places
+pub mod Tabling
+pub mod TableLaws

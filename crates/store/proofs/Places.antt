@@ -1,19 +1,17 @@
--- What a search by identifier finds among records in their order, and that edits there keep the order.
-use Rattle.std.specs.Prelude.{cond, ◌==◌, nat_lt}
-use Rattle.std.proofs.Common.{◌≡◌, ℕ, zero, suc, ◌<◌, ◌≤◌, Bool, true, false, List, [], ◌∷◌, length, get_or, set, is_some, Some, None, Result, Ok, Err, MatchResult, sym, ap, ◌∙◌, refl, arith}
+-- What a search by identifier finds among records in their order.
+use Rattle.std.proofs.Common.{◌≡◌, ℕ, zero, suc, ◌<◌, ◌≤◌, true, List, [], ◌∷◌, length, get_or, set, is_some, Some, None, Result, Ok, Err, MatchResult, sym, ap, refl, arith}
 use Rattle.std.specs.List.{insert, remove}
 use Rattle.std.specs.List.Sorted.{IsSearchInRange, IsBinarySearchResult, IsNonDecreasingBy}
 use Rattle.std.specs.Ordering.{nat_cmp, ordering_index}
 use Rattle.std.proofs.lemmas.Bool.Decides.{nat_tests}
-use Rattle.std.proofs.lemmas.Bool.{and_parts, false≢true, cond-false, ltb-true, lt-ltb, ne_eqb}
+use Rattle.std.proofs.lemmas.Bool.{and_parts, ltb-true}
 use Rattle.std.proofs.lemmas.Cmp.{ranked}
 use Rattle.std.proofs.lemmas.Grind.{common_steps}
 use Rattle.record.specs.declared.record.Record.{Record}
 use Rattle.store.specs.Lists.{key_of, above, rises, lookup, placed, without}
 use Rattle.store.specs.Search.{IsAt, IsGap}
-
-pub rises_tail : (x : Record) (xs : List Record) → rises (x ∷ xs) ≡ true → rises xs ≡ true
-rises_tail x xs h = (and_parts _ _ h).1
+use Rattle.store.proofs.Placing.{rises_tail, rises-placed}
+use Rattle.store.proofs.Removing.{rises-without}
 
 -- later identifiers are larger
 above_all : (k : ℕ) (xs : List Record) (i : ℕ) (d : Record) → above k xs ≡ true → rises xs ≡ true → i < length xs → k < key_of (get_or xs i d)
@@ -113,51 +111,4 @@ module _ (k : ℕ) (xs : List Record) (h : rises xs ≡ true) where
     behind = λ j d le m. ranked _ k _ (sym ((parted comparisons_rise).1 j d le m));
   })
 
--- the order stays
-above_placed : (k : ℕ) (r : Record) (xs : List Record) → k < key_of r → above k xs ≡ true → above k (placed r xs) ≡ true
-above_placed k r [] l h = grind (arith, nat_tests)
-above_placed k r (x ∷ xs) l h = grind (arith, nat_tests)
-
-pub rises_placed : (r : Record) (xs : List Record) → rises xs ≡ true → rises (placed r xs) ≡ true
-rises_placed r [] h = refl
-rises_placed r (x ∷ xs) h = grind (arith, nat_tests, above_placed (key_of x) r xs, rises_placed r xs)
-
-above_without : (j k : ℕ) (xs : List Record) → above j xs ≡ true → rises xs ≡ true → above j (without k xs) ≡ true
-above_without j k [] a h = refl
-above_without j k (x ∷ []) a h = grind (arith, nat_tests)
-above_without j k (x ∷ y ∷ xs) a h = grind (arith, nat_tests)
-
-pub rises_without : (k : ℕ) (xs : List Record) → rises xs ≡ true → rises (without k xs) ≡ true
-rises_without k [] h = refl
-rises_without k (x ∷ xs) h = grind (arith, nat_tests, above_without (key_of x) k xs, rises_without k xs)
-
--- a record that is there is replaced, so that there are as many
-pub above_lower : (k j : ℕ) (ys : List Record) → k < j → above j ys ≡ true → above k ys ≡ true
-above_lower k j [] l a = refl
-above_lower k j (y ∷ ys) l a = let m = ltb-true _ _ a in lt-ltb _ _ (omega arith)
-
-below_none : (k : ℕ) (xs : List Record) → above k xs ≡ true → rises xs ≡ true → is_some (lookup k xs) ≡ false
-below_none k [] a h = refl
-below_none k (x ∷ xs) a h =
-    let l = ltb-true _ _ a in
-    ap is_some (cond-false _ _ _ (ne_eqb (key_of x) k (omega arith)))
-    ∙ below_none k xs (above_lower k (key_of x) xs l (and_parts _ _ h).0) (rises_tail x xs h)
-
-pub length_placed :
-    (r : Record) (xs : List Record) → rises xs ≡ true → is_some (lookup (key_of r) xs) ≡ true → length (placed r xs) ≡ length xs
-length_placed r [] h f = absurd (false≢true f)
-length_placed r (x ∷ xs) h f =
-    go (key_of x == key_of r) refl (nat_lt (key_of r) (key_of x)) refl (length_placed r xs (rises_tail x xs h))
-  where
-    go :
-        (b : Bool) →
-        (key_of x == key_of r) ≡ b →
-        (t : Bool) →
-        nat_lt (key_of r) (key_of x) ≡ t →
-        (is_some (lookup (key_of r) xs) ≡ true → length (placed r xs) ≡ length xs) →
-        length (cond b (r ∷ xs) (cond t (r ∷ x ∷ xs) (x ∷ placed r xs))) ≡ length (x ∷ xs)
-    go true p t q i = refl
-    go false p true q i = absurd (false≢true (sym (below_none (key_of r) (x ∷ xs) q h) ∙ f))
-    go false p false q i = ap suc (i (sym (ap is_some (cond-false _ _ _ p)) ∙ f))
-
-pub ruleset row_steps = (common_steps, rises_placed, rises_without)
+pub ruleset row_steps = (common_steps, rises-placed, rises-without)

@@ -1,5 +1,5 @@
 -- Lists of records by rising identifier. Of a record only the identifier matters here.
-use Rattle.std.specs.Prelude.{ℕ, Bool, true, cond, ◌&&◌, List, [], ◌∷◌, Some, None, Option, ◌==◌, nat_lt, slice_get, slice_index_or}
+use Rattle.std.specs.Prelude.{ℕ, suc, Bool, true, cond, ◌&&◌, List, [], ◌∷◌, Some, None, Option, ◌==◌, nat_lt, slice_get, slice_index_or}
 use Rattle.octets.specs.Octets.{value}
 use Rattle.record.specs.declared.record.Record.{Record}
 
@@ -30,6 +30,11 @@ placed r (x ∷ xs) = cond (key_of x == key_of r) (r ∷ xs) (cond (nat_lt (key_
 abbrev pub without : ℕ → List Record → List Record
 without k [] = []
 without k (x ∷ xs) = cond (key_of x == k) xs (x ∷ without k xs)
+
+-- where the record of an identifier stands, or how many records there are
+abbrev pub place_of : ℕ → List Record → ℕ
+place_of k [] = 0
+place_of k (x ∷ xs) = cond (key_of x == k) 0 (suc (place_of k xs))
 
 -- the n-th record, from 0
 abbrev pub nth : List Record → ℕ → Option Record
