@@ -8,7 +8,6 @@ use Rattle.octets.specs.Octets.{value}
 use Rattle.octets.specs.declared.ids.IdRange.{IdRange}
 use Rattle.octets.specs.Ranges.{empty, in_range}
 use Rattle.frame.specs.declared.message.Entry.{Entry}
-use Rattle.frame.specs.declared.kind.Kind.{Kind}
 use Rattle.frame.specs.Reading.{last_id}
 use Rattle.writer.specs.declared.scope.Scope.{Scope}
 use Rattle.writer.specs.declared.scope.Scope.TheVariants.{Csnp, Psnp}
@@ -43,8 +42,3 @@ range_fault es r = fails (empty r || not (inside r es)) Summary
 abbrev pub in_scope : Scope → List Entry → Bool
 in_scope (Csnp r) es = not (empty r) && (nat_le (value r.end) last_id && inside r es)
 in_scope Psnp es = true
-
--- the kind of frame that covers it
-abbrev pub scope_kind : Scope → Kind
-scope_kind (Csnp r) = Kind.Csnp
-scope_kind Psnp = Kind.Psnp

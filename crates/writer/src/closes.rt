@@ -9,6 +9,7 @@ use crate::frame_octets::FrameOctets;
 use crate::scope::Scope;
 use crate::summary::ClosedSummary;
 use fault::FrameFault;
+use frame::Kind;
 use octets::SourceId;
 
 // How many octets the entries take behind the header.
@@ -25,13 +26,21 @@ fn head<'a>(source: SourceId, scope: Scope, behind: usize, buf: &'a mut [u8]) ->
     ensures same_reference { result.buf.ghost_name ≡ buf.entry.ghost_name }
     ensures wrote { Wrote buf.old 0 (head_octets scope (value source) behind) result.buf.now result.len }
 {
-    let mut frame = FrameOctets::headed(scope.kind(), behind, buf);
-    frame.put(&source);
-    if let Scope::Csnp(range) = scope {
-        frame.put(&range.start);
-        frame.put(&range.end);
+    // A kind that is known in each case makes the header of known octets.
+    match scope {
+        Scope::Csnp(range) => {
+            let mut frame = FrameOctets::headed(Kind::Csnp, behind, buf);
+            frame.put(&source);
+            frame.put(&range.start);
+            frame.put(&range.end);
+            frame
+        }
+        Scope::Psnp => {
+            let mut frame = FrameOctets::headed(Kind::Psnp, behind, buf);
+            frame.put(&source);
+            frame
+        }
     }
-    frame
 }
 
 impl ClosedSummary {
