@@ -15,21 +15,19 @@ pub type SourceId = [u8; 7];
 // An LSP's identifier: a system's, the octet of a pseudonode and the octet of a fragment.
 pub type LspId = [u8; 8];
 
-// Which of two identifiers comes first, octet by octet.
-// A loop, since the library's comparison of arrays takes twice its time, and the searches of a store and the checks of entries mostly compare.
+// Which of two identifiers comes first, octet by octet: the order of the numbers that they write.
 pub fn order(a: LspId, b: LspId) -> Ordering
     ensures ranked { MatchOrdering result (value a < value b) (value a ≡ value b) (value b < value a) }
     ensures same { value a ≡ value b → a ≡ b }
 {
-    for i in 0..8 {
-        if a[i] < b[i] {
-            return Ordering::Less;
-        }
-        if a[i] > b[i] {
-            return Ordering::Greater;
-        }
-    }
-    Ordering::Equal
+    number(a).cmp(&number(b))
+}
+
+// The number that an identifier writes.
+fn number(id: LspId) -> u64
+    ensures { result ≡ value id }
+{
+    u64::from_be_bytes(id)
 }
 
 // Whether two identifiers are the same.
